@@ -1,1 +1,9 @@
-pub mod More
+pub mod Bools
+pub mod Grown
+pub mod Known
+pub mod Inv
+pub mod Keep
+pub mod Hearing
+pub mod Steps
+pub mod SixEvents
+pub mod Main

@@ -6,7 +6,7 @@ use Prim.Native.Nat.{ℕ, zero, suc, _+_, _*_, _<_, _≤_, _/_, _%_}
 use lib.Dec.{eqb, ltb, leb, T}
 use lib.ListN.{length}
 use Rattle.tickets.specs.Term.{Term}
-use Rattle.tickets.specs.Run.{Rules, isIn}
+use Rattle.tickets.specs.State.{Rules, isIn}
 
 -- what is remembered of one thing: its digest, and the tick at which it was done
 pub record Thing : Type 0 where

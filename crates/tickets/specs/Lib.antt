@@ -1,5 +1,6 @@
 pub mod Term
-pub mod Run
-pub mod Premise
+pub mod State
+pub mod Event
 pub mod Promise
+pub mod Premise
 pub mod Code

@@ -1,75 +1,178 @@
--- What is promised of the whole, and of its parts. Each is a type; a proof of the type is the theorem. Assumes nothing.
+-- What is promised of the whole, in every state that can be reached. The proofs are in proofs/Main.antt. Assumes nothing.
 use mathlib.Core.Path.{_≡_}
-use mathlib.Core.Bool.{Bool, true, false, cond, _&&_, _||_, not}
+use mathlib.Core.Bool.{true, false}
 use mathlib.Core.List.{List, [], _∷_, _++_, List·Memᴰ}
-use Prim.Native.Nat.{ℕ, zero, suc, _+_, _*_, _<_, _≤_, _/_, _%_}
-use lib.Dec.{eqb, ltb, leb, T}
-use lib.ListN.{length}
-use mathlib.Core.Logic.{_⊎_}
-use Rattle.tickets.specs.Term.{Term, Num, Drawn, Own, Pair, Lock, Gets}
-use Rattle.tickets.specs.Run.{Rules, Key, Asked, Done, State, Step, Reach, start, isIn, even, ticket, letter, asking}
+use Prim.Native.Nat.{ℕ, _+_, _≤_}
+use Rattle.tickets.specs.Term.{Term, Num, Own, Gets, even}
+use Rattle.tickets.specs.State.{Rules, Lately, Line, Stage, LoggingIn, AskingHouse, Wish, Key, Asked, Done, Closing, State, Safe, early, isIn, isClosed, start}
+use Rattle.tickets.specs.Event.{Body, ticket, receipt, Event, begins, grants, wants, serves, asks, does, newLine, newWish, newDone, Later, Reach}
 
--- nobody has stolen the key of any of these
-abbrev pub Whole3 : Rules → State → ℕ → ℕ → Type 0
-Whole3 r s a v = (isIn a (s .stolen) ≡ false) × (isIn (r .keyOf v) (s .stolen) ≡ false) × (isIn (r .keyOf (r .house)) (s .stolen) ≡ false)
+-- the deed was asked: by that reader, of that service, under that key and number, in those words, of lately
+pub record Answers (r : Rules) (s : State) (d : Done) (q : Asked) : Type 0 where
+  pub known : List·Memᴰ q (s .asked)
+  pub by-reader : q .line .reader ≡ d .who
+  pub of-service : q .service ≡ d .service
+  pub same-key : q .key ≡ d .key
+  pub same-number : even (q .number) ≡ d .number
+  pub in-words : q .what ≡ d .what
+  pub in-time : Lately (early r) (r .lag) (d .at) (q .at)
+  pub from-line : List·Memᴰ (q .line) (s .lines)
 
--- 1. A key that isn't stolen is never on the net.
-abbrev pub OwnKept : Type 0
-OwnKept = (r : Rules) (s : State) → Reach r s → (a : ℕ) → isIn a (s .stolen) ≡ false → Gets (s .air) (Own a) → ⊥
+-- an asking to a service says what its line says: of which service, in which words, at which tick
+pub record AsWanted (q : Asked) : Type 0 where
+  pub of-service : q .line .service ≡ q .service
+  pub in-words : q .line .what ≡ q .what
+  pub at-tick : q .line .at ≡ q .at
 
--- 2. Every ticket that a service can open was made by the house, if the service's key isn't stolen.
-abbrev pub TicketMade : Type 0
-TicketMade =
-    (r : Rules) (s : State) → Reach r s → (v a u : ℕ) (k : Term) → isIn (r .keyOf v) (s .stolen) ≡ false → Gets (s .air) (ticket r v (Num a) k u) →
-    (m : Key) × List·Memᴰ m (s .made) × (m .who ≡ a) × (m .service ≡ v) × (k ≡ even (m .key)) × (u ≡ m .until)
+-- where a deed of a service comes from: a reader's asking, from a line that says the same
+pub data Origin (r : Rules) (s : State) (d : Done) : Type 0 where
+  by-reader : (q : Asked) → Answers r s d q → AsWanted q → Origin r s d
 
--- 3. The key in a ticket stays between the two and the house, as long as their keys and the house's do.
-abbrev pub KeyKept : Type 0
-KeyKept = (r : Rules) (s : State) → Reach r s → (m : Key) → List·Memᴰ m (s .made) → Whole3 r s (m .who) (m .service) → Gets (s .air) (even (m .key)) → ⊥
+-- the line from which a deed comes
+abbrev pub originLine : {r : Rules} {s : State} {d : Done} → Origin r s d → Line
+originLine (by-reader q a w) = q .line
 
--- 4. What a service does was asked of it, by whom the ticket names, in just these words, lately, if no key of the three is stolen.
-abbrev pub WasAsked : Type 0
-WasAsked =
-    (r : Rules) (s : State) → Reach r s → (d : Done) → List·Memᴰ d (s .done) → Whole3 r s (d .who) (d .service) →
-    (q : Asked) × List·Memᴰ q (s .asked) × (q .who ≡ d .who) × (q .service ≡ d .service) × (q .key ≡ d .key) × (even (q .number) ≡ d .number) × (q .what ≡ d .what) × (q .at ≤ d .at) × (d .at ≤ q .at + r .lag)
+-- a key was made for this reader and service, upon this number, after it was under way
+pub record MadeUpon (s : State) (who service : ℕ) (key : Term) (upon since : ℕ) (m : Key) : Type 0 where
+  pub known : List·Memᴰ m (s .made)
+  pub for-reader : m .who ≡ who
+  pub for-service : m .service ≡ service
+  pub same-key : key ≡ even (m .key)
+  pub same-number : m .upon ≡ even upon
+  pub not-before : since ≤ m .at
 
--- 5. And it is done once.
-unfoldable pub timesDone : (Done → Bool) → List Done → ℕ
-timesDone f [] = 0
-timesDone f (d ∷ ds) = cond (f d) 1 0 + timesDone f ds
+-- a ticket was made by the house, with just this inside
+pub record MadeFor (s : State) (b : Body) (m : Key) : Type 0 where
+  pub known : List·Memᴰ m (s .made)
+  pub for-reader : m .who ≡ b .who
+  pub for-service : m .service ≡ b .service
+  pub same-key : b .key ≡ even (m .key)
+  pub same-until : b .until ≡ m .until
 
-abbrev pub Once : Type 0
-Once =
-    (r : Rules) (s : State) → Reach r s → (ds es : List Done) (d e : Done) → s .done ≡ ds ++ (d ∷ es) → Whole3 r s (d .who) (d .service) → List·Memᴰ e es → e .service ≡ d .service → e .key ≡ d .key → e .number ≡ d .number → ⊥
+-- a login that this reader began, no longer than the lag before the key was made upon it
+pub record Began (r : Rules) (s : State) (m : Key) (x : Wish) : Type 0 where
+  pub known : List·Memᴰ x (s .wishes)
+  pub at-login : x .stage ≡ LoggingIn
+  pub by-reader : x .line .reader ≡ m .who
+  pub same-number : m .upon ≡ even (x .number)
+  pub in-time : Lately (early r) (r .lag) (m .at) (x .since)
 
--- what comes later, in so many steps
-pub data Later (r : Rules) : ℕ → State → State → Type 0 where
-  here : {s : State} → Later r 0 s s
-  onward : {k : ℕ} {s t u : State} → Later r k s t → Step r t u → Later r (suc k) s u
+-- the six events by which a reader is served from a state, the newest first
+abbrev pub six : Rules → State → (reader service : ℕ) → (what : Term) → List Event
+six r s a v w =
+    does (record { service = v; who = a; key = even (s .next + 1 + 1 + 1); until = s .now + r .life }) (even (s .next + 1 + 1 + 1 + 1)) w (s .now)
+    ∷ asks (record { line = newLine s a v w; stage = AskingHouse; number = s .next + 1 + 1; since = s .now; key = even (s .next + 1) }) (even (s .next + 1 + 1 + 1)) (s .now + r .life)
+    ∷ serves (record { service = r .house; who = a; key = even (s .next + 1); until = s .now + r .life }) (even (s .next + 1 + 1)) v (s .now)
+    ∷ wants (newWish s (newLine s a v w) LoggingIn (Own a)) (even (s .next + 1)) (s .now + r .life)
+    ∷ grants a (even (s .next)) (s .now)
+    ∷ begins a v w
+    ∷ []
 
--- 6. A closed account is over: what is done as somebody is done no later than one life after the account was closed.
-abbrev pub Over : Type 0
-Over =
-    (r : Rules) (s t : State) (k : ℕ) → Reach r s → Later r k s t → (a : ℕ) → isIn a (s .closed) ≡ true → (d : Done) → List·Memᴰ d (t .done) → d .who ≡ a →
-    isIn (r .keyOf (d .service)) (t .stolen) ≡ false → d .at ≤ s .now + r .life
+-- after the six events: the same tick, nothing stolen or closed, one line more, and a new deed of just this line
+pub record ServedBy (r : Rules) (s : State) (a v : ℕ) (w : Term) (t : State) : Type 0 where
+  pub possible : Later r s (six r s a v w) t
+  pub same-tick : t .now ≡ s .now
+  pub nothing-stolen : t .stolen ≡ s .stolen
+  pub nothing-closed : t .closed ≡ s .closed
+  pub one-line : t .lines ≡ newLine s a v w ∷ s .lines
+  pub deed : Done
+  pub ticket-given : Done
+  pub two-deeds : t .done ≡ deed ∷ ticket-given ∷ s .done
+  pub as-reader : deed .who ≡ a
+  pub by-service : deed .service ≡ v
+  pub in-words : deed .what ≡ w
+  pub at-once : deed .at ≡ s .now
+  pub the-asking : Asked
+  pub accounts : Answers r t deed the-asking
+  pub of-line : the-asking .line ≡ newLine s a v w
 
--- 7. Whoever has an account that is open can have anything done by any service, in six steps from every state, and in the same tick.
-abbrev pub CanBeServed : Type 0
-CanBeServed =
-    (r : Rules) (s : State) → Reach r s → (a v : ℕ) (w : Term) → (v ≡ r .house → ⊥) → isIn a (s .closed) ≡ false → Gets (s .air) w →
-    (t : State) × Later r 6 s t × (t .now ≡ s .now) × (d : Done) × List·Memᴰ d (t .done) × (d .who ≡ a) × (d .service ≡ v) × (d .what ≡ w)
+-- What a service did, the reader asked of it, in those words, not later and no more than the lag before, from a line of that reader that says the same; unless a key of the three had been stolen by then.
+abbrev pub AskedFor : Rules → State → Type 0
+AskedFor r s =
+    (d : Done) → List·Memᴰ d (s .done) → (d .service ≡ r .house → ⊥) → Safe r (d .stolen) (d .who) (d .service) → Origin r s d
 
--- THE MAIN PROMISE. The net is the outsiders': they hear all, hold back, repeat and make up what they can work out, and steal keys when they like.
--- Whatever a service does as asked by somebody, that one asked of this service, in these words, lately, and it is done once, unless a key of the one, the service or the house was stolen before;
--- the keys made for them stay unknown as long; closed accounts are over one life later; and from every state whoever has an open account can be served, in six steps.
+-- A ticket that the house gave by a ticket, the reader asked for, by a line for that service; unless the reader's or the house's key had been stolen by then.
+abbrev pub Granted : Rules → State → Type 0
+Granted r s =
+    (d : Done) → List·Memᴰ d (s .done) → d .service ≡ r .house → Safe r (d .stolen) (d .who) (d .service)
+    → (q : Asked) × Answers r s d q × (Num (q .line .service) ≡ d .what)
+
+-- Two deeds of services come from different lines, unless a key on which the later one relies had been stolen by then.
+abbrev pub Once : Rules → State → Type 0
+Once r s =
+    (ds es : List Done) (d e : Done) → s .done ≡ ds ++ (d ∷ es) → List·Memᴰ e es → Safe r (d .stolen) (d .who) (d .service)
+    → (o : Origin r s d) (p : Origin r s e) → originLine o .id ≡ originLine p .id → ⊥
+
+-- Nothing is done twice by one service, or by the house, under one key and number, unless a key on which the later one relies had been stolen by then.
+abbrev pub OnceByNumber : Rules → State → Type 0
+OnceByNumber r s =
+    (ds es : List Done) (d e : Done) → s .done ≡ ds ++ (d ∷ es) → List·Memᴰ e es → Safe r (d .stolen) (d .who) (d .service)
+    → e .service ≡ d .service → e .key ≡ d .key → e .number ≡ d .number → ⊥
+
+-- A key that was made for a reader and a service can't be worked out while no key of the three is stolen.
+abbrev pub Kept : Rules → State → Type 0
+Kept r s = (m : Key) → List·Memᴰ m (s .made) → Safe r (s .stolen) (m .who) (m .service) → Gets (s .air) (even (m .key)) → ⊥
+
+-- An own key that isn't stolen can't be worked out.
+abbrev pub OwnKept : Rules → State → Type 0
+OwnKept r s = (a : ℕ) → isIn a (s .stolen) ≡ false → Gets (s .air) (Own a) → ⊥
+
+-- What opens as a ticket of a service was made by the house, for that reader and service, unless the service's key is stolen.
+abbrev pub TicketMade : Rules → State → Type 0
+TicketMade r s = (b : Body) → isIn (r .keyOf (b .service)) (s .stolen) ≡ false → Gets (s .air) (ticket r b) → (m : Key) × MadeFor s b m
+
+-- Nothing is done as a reader later than one life after the closing, unless the service's key had been stolen by then, whatever else is.
+abbrev pub Over : Rules → State → Type 0
+Over r s =
+    (c : Closing) (d : Done) → List·Memᴰ c (s .closed) → List·Memᴰ d (s .done) → d .who ≡ c .who
+    → isIn (r .keyOf (d .service)) (d .stolen) ≡ false → d .at ≤ c .at + r .life
+
+-- No key is made for a reader after the closing, whatever is stolen.
+abbrev pub NoTicket : Rules → State → Type 0
+NoTicket r s = (c : Closing) (m : Key) → List·Memᴰ c (s .closed) → List·Memᴰ m (s .made) → m .who ≡ c .who → m .at ≤ c .at
+
+-- A ticket for the house is made only upon a login that this reader began, no longer than the lag before, unless the reader's key had been stolen.
+abbrev pub LoggedIn : Rules → State → Type 0
+LoggedIn r s =
+    (m : Key) → List·Memᴰ m (s .made) → m .service ≡ r .house → isIn (m .who) (m .stolen) ≡ false → (x : Wish) × Began r s m x
+
+-- Whoever asks does so under a key made for this reader and service, after and upon the number of this very login or asking, unless the reader's or the house's key had been stolen.
+abbrev pub Fresh : Rules → State → Type 0
+Fresh r s =
+    (q : Asked) → List·Memᴰ q (s .asked) → Safe r (q .stolen) (q .line .reader) (r .house)
+    → (m : Key) × MadeUpon s (q .line .reader) (q .service) (q .key) (q .upon) (q .since) m
+
+-- A receipt under the key and for the number of an asking to a service means that it was done, if no key of the three is stolen.
+abbrev pub Heard : Rules → State → Type 0
+Heard r s =
+    (q : Asked) → List·Memᴰ q (s .asked) → (q .service ≡ r .house → ⊥) → Safe r (s .stolen) (q .line .reader) (q .service)
+    → Gets (s .air) (receipt (q .key) (even (q .number))) → (d : Done) × List·Memᴰ d (s .done) × Answers r s d q
+
+-- Whoever has an open account can have anything done by any service, by six events, at once.
+abbrev pub Served : Rules → State → Type 0
+Served r s =
+    (a v : ℕ) (w : Term) → (v ≡ r .house → ⊥) → isClosed a (s .closed) ≡ false → Gets (s .air) w → (t : State) × ServedBy r s a v w t
+
+-- all the promises, of one state
 pub record Whole (r : Rules) (s : State) : Type 0 where
-  pub asked-for : (d : Done) → List·Memᴰ d (s .done) → Whole3 r s (d .who) (d .service) →
-      (q : Asked) × List·Memᴰ q (s .asked) × (q .who ≡ d .who) × (q .service ≡ d .service) × (q .key ≡ d .key) × (even (q .number) ≡ d .number) × (q .what ≡ d .what) × (q .at ≤ d .at) × (d .at ≤ q .at + r .lag)
-  pub once : (ds es : List Done) (d e : Done) → s .done ≡ ds ++ (d ∷ es) → Whole3 r s (d .who) (d .service) → List·Memᴰ e es → e .service ≡ d .service → e .key ≡ d .key → e .number ≡ d .number → ⊥
-  pub kept : (m : Key) → List·Memᴰ m (s .made) → Whole3 r s (m .who) (m .service) → Gets (s .air) (even (m .key)) → ⊥
-  pub served : (a v : ℕ) (w : Term) → (v ≡ r .house → ⊥) → isIn a (s .closed) ≡ false → Gets (s .air) w → (t : State) × Later r 6 s t × (t .now ≡ s .now) × (d : Done) × List·Memᴰ d (t .done) × (d .who ≡ a) × (d .service ≡ v) × (d .what ≡ w)
-  pub over : (t : State) (k : ℕ) → Later r k s t → (a : ℕ) → isIn a (s .closed) ≡ true → (d : Done) → List·Memᴰ d (t .done) → d .who ≡ a →
-      isIn (r .keyOf (d .service)) (t .stolen) ≡ false → d .at ≤ s .now + r .life
+  pub asked-for : AskedFor r s
+  pub granted : Granted r s
+  pub once : Once r s
+  pub once-by-number : OnceByNumber r s
+  pub kept : Kept r s
+  pub own-kept : OwnKept r s
+  pub ticket-made : TicketMade r s
+  pub over : Over r s
+  pub no-ticket : NoTicket r s
+  pub logged-in : LoggedIn r s
+  pub fresh : Fresh r s
+  pub heard : Heard r s
+  pub served : Served r s
 
+-- a promise holds of every state that can be reached, by whatever rules
+abbrev pub Always : (Rules → State → Type 0) → Type 0
+Always P = (r : Rules) (es : List Event) (s : State) → Reach r es s → P r s
+
+-- THE MAIN PROMISE: all of this holds of every state that can be reached
 abbrev pub Main : Type 0
-Main = (r : Rules) (s : State) → Reach r s → Whole r s
+Main = Always Whole

@@ -1,12 +1,10 @@
--- Words as terms, and all that can be worked out from words. Assumes nothing.
-use mathlib.Core.Path.{_≡_}
-use mathlib.Core.Bool.{Bool, true, false, cond, _&&_, _||_, not}
-use mathlib.Core.List.{List, [], _∷_, _++_, List·Memᴰ}
-use Prim.Native.Nat.{ℕ, zero, suc, _+_, _*_, _<_, _≤_, _/_, _%_}
-use lib.Dec.{eqb, ltb, leb, T}
-use lib.ListN.{length}
+-- Words as terms, and all that can be worked out from words.
+-- Num: a number that everybody can write. Drawn: a number that somebody drew. Own: the own key with this name.
+-- Lock k key t: t locked with a key, as kind k. Assumes nothing.
+use mathlib.Core.List.{List, List·Memᴰ}
+use Prim.Native.Nat.{ℕ, _+_, _*_}
 
--- Num: a number that everybody can write; Drawn: a number that somebody drew; Own: the key of somebody, or of a service, or of the login house; Lock k key t: t locked with a key, of kind k
+-- what stands for a word, or a part of one
 pub data Term : Type 0 where
   Num : ℕ → Term
   Drawn : ℕ → Term
@@ -24,3 +22,7 @@ pub data Gets (have : List Term) : Term → Type 0 where
   right : {a e : Term} → Gets have (Pair a e) → Gets have e
   lock : {k t : Term} (n : ℕ) → Gets have k → Gets have t → Gets have (Lock n k t)
   open′ : {k t : Term} (n : ℕ) → Gets have (Lock n k t) → Gets have k → Gets have t
+
+-- a number that one of the honest drew
+abbrev pub even : ℕ → Term
+even n = Drawn (n * 2)
