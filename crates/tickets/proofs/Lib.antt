@@ -7,3 +7,4 @@ pub mod Hearing
 pub mod Steps
 pub mod SixEvents
 pub mod Main
+pub mod Cases

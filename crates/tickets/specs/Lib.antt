@@ -2,5 +2,6 @@ pub mod Term
 pub mod State
 pub mod Event
 pub mod Promise
+pub mod Cases
 pub mod Premise
 pub mod Code

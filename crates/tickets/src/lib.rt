@@ -1,6 +1,7 @@
 // The model of the ticket house: what may happen, and what is promised of every state that can be reached.
 // Nothing runs here: each function's contract is a theorem about the definitions in specs/.
 
+ghost use Rattle.tickets.specs.Cases.{WorkedCases};
 ghost use Rattle.tickets.specs.Promise.{Always, AskedFor, Fresh, Granted, Heard, Kept, LoggedIn, Main, NoTicket, Once, OnceByNumber, Over, OwnKept, Served, TicketMade};
 
 // All the promises together.
@@ -59,4 +60,9 @@ pub fn heard()
 // From every state whoever has an open account can be served.
 pub fn served()
     ensures { λ _. ⌜ Always Served ⌝ }
+{}
+
+// Worked cases, each a row of events and of what is so after them.
+pub fn worked_cases()
+    ensures { λ _. ⌜ WorkedCases ⌝ }
 {}
