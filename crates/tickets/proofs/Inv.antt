@@ -9,7 +9,7 @@ use Rattle.tickets.specs.Term.{Term, Num, Drawn, Own, Pair, Lock, Gets, has, n
 use Rattle.tickets.specs.Term
 use Rattle.tickets.specs.State.{Rules, Line, Stage, LoggingIn, AskingHouse, Wish, Key, Asked, Done, Closing, State, Safe, isIn, relies}
 use Rattle.tickets.specs.Event.{Body, bodyTerm, bodyOf, ticket, letter, asking, login, receipt}
-use Rattle.tickets.specs.Promise.{Answers, AsWanted, MadeUpon, Began}
+use Rattle.tickets.specs.Promise.{Answers, AsWanted, MadeUpon, CameBy, Began}
 use Rattle.tickets.specs.State.{anyIn}
 use Rattle.tickets.proofs.Bools
 use Rattle.tickets.proofs.Bools.{Sub, Unsafe, clash, unsafe-reader, unsafe-service, unsafe-house, unsafe-wider, even-injective}
@@ -62,6 +62,7 @@ pub record AskedOk (r : Rules) (s : State) (q : Asked) : Type 0 where
   pub holds : HoldsKey r s (q .line .reader) (q .key) (MadeUpon s (q .line .reader) (q .service) (q .key) (q .upon) (q .since))
   pub house-what : q .service ≡ r .house → q .what ≡ Num (q .line .service)
   pub as-wanted : (q .service ≡ r .house → ⊥) → AsWanted q
+  pub came : (x : Wish) × CameBy r s q x
   pub fresh : Safe r (q .stolen) (q .line .reader) (r .house)
       → (m : Key) × MadeUpon s (q .line .reader) (q .service) (q .key) (q .upon) (q .since) m
 

@@ -7,7 +7,7 @@ use Prim.Native.Nat.{ℕ, _+_, _*_, _≤_, _<_}
 use native.Mathlib.Omega.{arith}
 use Rattle.tickets.specs.Term.{Term, even}
 use Rattle.tickets.specs.State.{Rules, Line, Stage, LoggingIn, AskingHouse, Wish, Key, Asked, Done, Closing, State, Safe, isIn, relies}
-use Rattle.tickets.specs.Promise.{Answers, AsWanted, MadeUpon, Began}
+use Rattle.tickets.specs.Promise.{Answers, AsWanted, MadeUpon, CameBy, Began}
 use Rattle.tickets.proofs.Bools.{Sub, Unsafe, clash, anyIn-sub}
 use Rattle.tickets.proofs.Grown.{Grown, same, more, Two, both-old, first-new, second-new, one-new, grown-cases, grown-two, grown-old, unique-grown}
 use Rattle.tickets.proofs.Known.{Known, Grows, known-grows}
@@ -57,6 +57,20 @@ module _ (r : Rules) {s t : State} (g : Grows s t) where
         by-reader = b .by-reader;
         same-number = b .same-number;
         in-time = b .in-time;
+        from-line = g .lines (x .line) (b .from-line);
+      }
+
+  pub came-grows : {q : Asked} {x : Wish} → CameBy r s q x → CameBy r t q x
+  came-grows {x = x} b =
+      record {
+        known = g .wishes x (b .known);
+        by-reader = b .by-reader;
+        same-number = b .same-number;
+        same-since = b .same-since;
+        login = b .login;
+        asking = b .asking;
+        for-service = b .for-service;
+        from-line = g .lines (x .line) (b .from-line);
       }
 
   line-grows : (l : Line) → LineOk r s l → LineOk r t l
@@ -98,6 +112,7 @@ module _ (r : Rules) {s t : State} (g : Grows s t) where
         holds = go (o .holds);
         house-what = o .house-what;
         as-wanted = o .as-wanted;
+        came = let b = o .came in (b .0, came-grows (b .1));
         fresh = λ w. let b = o .fresh w in (b .0, upon-grows (b .1));
       }
     where

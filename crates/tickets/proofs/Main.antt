@@ -5,13 +5,13 @@ use mathlib.Core.Logic.{_⊎_, inl, inr}
 use mathlib.Core.List.{List, [], _∷_, _++_, List·Memᴰ}
 use Prim.Native.Nat.{ℕ, _+_, _*_, _≤_, _<_}
 use native.Mathlib.Omega.{arith}
-use Rattle.tickets.specs.Term.{Term, Num, Own, Gets, even}
-use Rattle.tickets.specs.State.{Rules, Key, Asked, Done, Closing, State, Safe, isIn, anyIn, relies}
-use Rattle.tickets.specs.Event.{Body, ticket, receipt, Event, Reach}
-use Rattle.tickets.specs.Promise.{Answers, Origin, by-reader, originLine, MadeUpon, MadeFor, Whole, Main}
+use Rattle.tickets.specs.Term.{Term, Num, Own, Pair, Gets, even}
+use Rattle.tickets.specs.State.{Rules, Wish, Key, Asked, Done, Closing, State, Safe, isIn, anyIn, relies}
+use Rattle.tickets.specs.Event.{Body, ticket, asking, receipt, Event, Reach}
+use Rattle.tickets.specs.Promise.{Answers, Origin, by-reader, originLine, MadeUpon, MadeFor, CameBy, SentUnder, Whole, Main}
 use Rattle.tickets.proofs.Bools.{clash, unsafe-wider, safe-back, even-injective}
 use Rattle.tickets.proofs.Known.{Known}
-use Rattle.tickets.proofs.Inv.{HoldsKey, key-given, key-forged, Ticketed, ticket-made, ticket-forged, NotBefore, EachOnce, Inv, known-unsafe, own-stolen, gets-known, receipt-cases}
+use Rattle.tickets.proofs.Inv.{HoldsKey, key-given, key-forged, Ticketed, ticket-made, ticket-forged, NotBefore, EachOnce, Inv, known-unsafe, own-stolen, gets-known, asking-cases, receipt-cases}
 use Rattle.tickets.proofs.Hearing.{ticket-heard}
 use Rattle.tickets.proofs.Steps.{reached}
 use Rattle.tickets.proofs.SixEvents.{served}
@@ -105,6 +105,58 @@ module _ {r : Rules} {s : State} (i : Inv r s) where
       go (inl m) = m
       go (inr k) = absurd (clash (k .1) free)
 
+  asking-was-made : (m : Key) (v : ℕ) (n w : Term) (t : ℕ) → List·Memᴰ m (s .made) → Safe r (s .stolen) (m .who) (m .service)
+      → Gets (s .air) (asking (even (m .key)) v n w t) → (q : Asked) × SentUnder s m v n w t q
+  asking-was-made m v n w t h safe l = go (asking-cases (gets-known i l))
+    where
+      holder : (q : Asked) → q .key ≡ even (m .key) → HoldsKey r s (q .line .reader) (q .key) (MadeUpon s (q .line .reader) (q .service) (q .key) (q .upon) (q .since))
+          → (q .line .reader ≡ m .who) × (q .service ≡ m .service)
+      holder q e (key-forged k u) = absurd (clash (known-unsafe i m h (subst (Known r s) e k)) safe)
+      holder q e (key-given p g) =
+          let same : p ≡ m = i .one-key p m (g .known) h (even-injective (p .key) (m .key) (sym (g .same-key) ∙ e)) in
+          (sym (g .for-reader) ∙ ap (λ (x : Key). x .who) same, sym (g .for-service) ∙ ap (λ (x : Key). x .service) same)
+
+      go : (Known r s (even (m .key)) × Known r s (Pair (Num v) (Pair n (Pair w (Num t)))))
+          ⊎ ((q : Asked) × List·Memᴰ q (s .asked) × (even (m .key) ≡ q .key)
+          × (Pair (Num v) (Pair n (Pair w (Num t))) ≡ Pair (Num (q .service)) (Pair (even (q .number)) (Pair (q .what) (Num (q .at))))))
+          → (q : Asked) × SentUnder s m v n w t q
+      go (inl k) = absurd (clash (known-unsafe i m h (k .0)) safe)
+      go (inr k) =
+          let e = k .3 in
+          let f = holder (k .0) (sym (k .2)) (i .asked (k .0) (k .1) .holds) in
+          let v-is : k .0 .service ≡ v = cc in (
+            k .0,
+            record {
+              known = k .1;
+              by-reader = f .0;
+              of-service = v-is;
+              key-for-service = sym (f .1) ∙ v-is;
+              same-key = sym (k .2);
+              same-number = cc;
+              in-words = cc;
+              at-tick = cc;
+              from-line = i .asked (k .0) (k .1) .line;
+            },
+          )
+
+  fresh : (q : Asked) → List·Memᴰ q (s .asked) → Safe r (q .stolen) (q .line .reader) (r .house)
+      → (x : Wish) × CameBy r s q x × (m : Key) × MadeUpon s (q .line .reader) (q .service) (q .key) (x .number) (x .since) m
+  fresh q h safe =
+      let x = i .asked q h .came in
+      let m = i .asked q h .fresh safe in (
+        x .0,
+        x .1,
+        m .0,
+        record {
+          known = m .1 .known;
+          for-reader = m .1 .for-reader;
+          for-service = m .1 .for-service;
+          same-key = m .1 .same-key;
+          same-number = m .1 .same-number ∙ ap even (sym (x .1 .same-number));
+          not-before = let e = x .1 .same-since in let l = m .1 .not-before in omega arith;
+        },
+      )
+
   whole : Whole r s
   whole =
       record {
@@ -115,10 +167,11 @@ module _ {r : Rules} {s : State} (i : Inv r s) where
         kept = λ m h w k. clash (known-unsafe i m h (gets-known i k)) w;
         own-kept = λ a w k. clash (own-stolen i a (gets-known i k)) w;
         ticket-made = ticket-was-made;
+        asking-made = asking-was-made;
         over = over;
         no-ticket = i .closings;
         logged-in = λ m h. i .made m h .began;
-        fresh = λ q h. i .asked q h .fresh;
+        fresh = fresh;
         heard = heard;
         served = served i;
       }

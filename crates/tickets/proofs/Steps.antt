@@ -11,7 +11,7 @@ use Rattle.tickets.specs.Term.{Term, Num, Drawn, Own, Pair, Lock, Gets, even}
 use Rattle.tickets.specs.State.{Rules, Lately, Line, Stage, LoggingIn, AskingHouse, Wish, Key, Asked, Done, Closing, State, Safe, isIn, isClosed, relies, start}
 use Rattle.tickets.specs.Event
 use Rattle.tickets.specs.Event.{Body, bodyOf, ticket, letterOf, askingOf, loginOf, receipt, Event, after, May, Later, Reach, HearsLogin, Hears, Serves, Does, Takes, HoldsHouse, HoldsService, Wants, newLine, newWish, newAsked, newKey, newDone}
-use Rattle.tickets.specs.Promise.{Answers, AsWanted, MadeUpon, MadeFor, Began}
+use Rattle.tickets.specs.Promise.{Answers, AsWanted, MadeUpon, MadeFor, CameBy, Began}
 use Rattle.tickets.proofs.Bools.{Sub, Unsafe, clash, or-cases, or-false-left, or-false-right, isIn-here, isIn-more, sub-refl, sub-more}
 use Rattle.tickets.proofs.Grown.{Grown, same, more, grown-old}
 use Rattle.tickets.proofs.Known
@@ -241,14 +241,15 @@ module _ {r : Rules} {s : State} (i : Inv r s) where
               by-reader = sym reader;
               same-number = cc;
               in-time = subst (λ (x : ℕ). Lately 0 (r .lag) (s .now) x) f (h .in-time);
+              from-line = i .wishes (p .0) (p .1) .line;
             },
           )
 
   -- an asking under a key that its reader holds
   asked-ok : (t : State) → Grows s t → (q : Asked) → q .number < t .next → q .stolen ≡ s .stolen → Known r s (q .what) → List·Memᴰ (q .line) (t .lines)
       → HoldsKey r s (q .line .reader) (q .key) (MadeUpon s (q .line .reader) (q .service) (q .key) (q .upon) (q .since))
-      → (q .service ≡ r .house → q .what ≡ Num (q .line .service)) → ((q .service ≡ r .house → ⊥) → AsWanted q) → AskedOk r t q
-  asked-ok t g q low st what line holds house-what as-wanted =
+      → (q .service ≡ r .house → q .what ≡ Num (q .line .service)) → ((q .service ≡ r .house → ⊥) → AsWanted q) → (x : Wish) × CameBy r t q x → AskedOk r t q
+  asked-ok t g q low st what line holds house-what as-wanted came =
       record {
         low = low;
         thefts = λ a h. g .thefts a (subst (λ (x : List ℕ). isIn a x ≡ true) st h);
@@ -257,6 +258,7 @@ module _ {r : Rules} {s : State} (i : Inv r s) where
         holds = later holds;
         house-what = house-what;
         as-wanted = as-wanted;
+        came = came;
         fresh = λ w. fresh (subst (λ (x : List ℕ). Safe r x (q .line .reader) (r .house)) st w) holds;
       }
     where
@@ -302,7 +304,7 @@ module _ {r : Rules} {s : State} (i : Inv r s) where
             more q
             (record {
               ok =
-                  asked-ok t g q (omega arith) refl (Known.number (x .line .service)) line holds (λ _. refl) (λ w. absurd (w refl));
+                  asked-ok t g q (omega arith) refl (Known.number (x .line .service)) line holds (λ _. refl) (λ w. absurd (w refl)) came;
               fresh = refl;
               from = Keep.AskedFrom.for-house refl;
             });
@@ -328,6 +330,21 @@ module _ {r : Rules} {s : State} (i : Inv r s) where
       holds : HoldsKey r s (x .line .reader) k (MadeUpon s (x .line .reader) (r .house) k (x .number) (x .since))
       holds = login-letter i x k u (h .known) (gets-known i (h .heard))
 
+      came : (w : Wish) × CameBy r t q w
+      came = (
+        x,
+        record {
+          known = g .wishes x (h .known);
+          by-reader = refl;
+          same-number = refl;
+          same-since = refl;
+          login = λ _. h .at-stage;
+          asking = λ w. absurd (w refl);
+          for-service = λ w. absurd (w refl);
+          from-line = line;
+        },
+      )
+
   step-wish : (p : Asked) (v : ℕ) (w : Term) → HoldsHouse r s p → Wants r s v w → Change r s (after r (Event.wish p v w) s)
   step-wish p v w h z =
       record {
@@ -352,7 +369,7 @@ module _ {r : Rules} {s : State} (i : Inv r s) where
         asked =
             more q
             (record {
-              ok = asked-ok t g q (omega arith) refl (Known.number v) (List·Memᴰ·head refl) holds (λ _. refl) (λ w. absurd (w refl));
+              ok = asked-ok t g q (omega arith) refl (Known.number v) (List·Memᴰ·head refl) holds (λ _. refl) (λ w. absurd (w refl)) came;
               fresh = refl;
               from = Keep.AskedFrom.for-house refl;
             });
@@ -380,6 +397,22 @@ module _ {r : Rules} {s : State} (i : Inv r s) where
           subst (λ (v : ℕ). HoldsKey r s (p .line .reader) (p .key) (MadeUpon s (p .line .reader) v (p .key) (p .upon) (p .since))) (h .the-house)
           (i .asked p (h .known) .holds)
 
+      came : (w : Wish) × CameBy r t q w
+      came =
+          let b = i .asked p (h .known) .came in (
+            b .0,
+            record {
+              known = g .wishes (b .0) (b .1 .known);
+              by-reader = b .1 .by-reader;
+              same-number = b .1 .same-number;
+              same-since = b .1 .same-since;
+              login = λ _. b .1 .login (h .the-house);
+              asking = λ w. absurd (w refl);
+              for-service = λ w. absurd (w refl);
+              from-line = g .lines (b .0 .line) (b .1 .from-line);
+            },
+          )
+
   step-again : (p : Asked) (w : Term) → HoldsService r s p → Gets (s .air) w → Change r s (after r (Event.again p w) s)
   step-again p w h z =
       record {
@@ -394,7 +427,7 @@ module _ {r : Rules} {s : State} (i : Inv r s) where
             (record {
               ok =
                   asked-ok t g q (omega arith) refl (gets-known i z) (List·Memᴰ·head refl) (i .asked p (h .known) .holds) (λ e. absurd (h .a-service e))
-                  (λ _. record { of-service = refl; in-words = refl; at-tick = refl });
+                  (λ _. record { of-service = refl; in-words = refl; at-tick = refl }) came;
               fresh = refl;
               from = Keep.AskedFrom.new-line refl (λ x k. k);
             });
@@ -414,6 +447,22 @@ module _ {r : Rules} {s : State} (i : Inv r s) where
       g : Grows s t
       g = grows s t (omega arith) (omega arith) (sub-refl (s .stolen)) (sub-refl (s .taken)) (more l tt) same same (more q tt) same
 
+      came : (w : Wish) × CameBy r t q w
+      came =
+          let b = i .asked p (h .known) .came in (
+            b .0,
+            record {
+              known = g .wishes (b .0) (b .1 .known);
+              by-reader = b .1 .by-reader;
+              same-number = b .1 .same-number;
+              same-since = b .1 .same-since;
+              login = b .1 .login;
+              asking = b .1 .asking;
+              for-service = b .1 .for-service;
+              from-line = g .lines (b .0 .line) (b .1 .from-line);
+            },
+          )
+
   step-asks : (x : Wish) (k : Term) (u : ℕ) → Takes s x AskingHouse (x .key) (x .line .service) k u → Change r s (after r (Event.asks x k u) s)
   step-asks x k u h =
       record {
@@ -428,7 +477,7 @@ module _ {r : Rules} {s : State} (i : Inv r s) where
             (record {
               ok =
                   asked-ok t g q (omega arith) refl what line holds
-                  (λ e. absurd (i .lines (x .line) line .a-service e)) (λ _. record { of-service = refl; in-words = refl; at-tick = refl });
+                  (λ e. absurd (i .lines (x .line) line .a-service e)) (λ _. record { of-service = refl; in-words = refl; at-tick = refl }) came;
               fresh = refl;
               from = Keep.AskedFrom.went-on x (h .known) (h .at-stage) refl (h .not-taken) (isIn-here (x .number) (s .taken)) (λ x k. k);
             });
@@ -453,6 +502,21 @@ module _ {r : Rules} {s : State} (i : Inv r s) where
 
       holds : HoldsKey r s (x .line .reader) k (MadeUpon s (x .line .reader) (x .line .service) k (x .number) (x .since))
       holds = asking-letter i x (x .line .service) k u (h .known) (h .at-stage) (gets-known i (h .heard))
+
+      came : (w : Wish) × CameBy r t q w
+      came = (
+        x,
+        record {
+          known = g .wishes x (h .known);
+          by-reader = refl;
+          same-number = refl;
+          same-since = refl;
+          login = λ e. absurd (i .lines (x .line) line .a-service e);
+          asking = λ _. h .at-stage;
+          for-service = λ _. refl;
+          from-line = line;
+        },
+      )
 
   -- what is done upon a ticket and an asking that were heard
   done-ok : (t : State) → Grows s t → (b : Body) (n w : Term) (at : ℕ) → Hears r s b n w at → DoneOk r t (newDone s b n w)

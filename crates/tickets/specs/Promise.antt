@@ -5,7 +5,7 @@ use mathlib.Core.List.{List, [], _∷_, _++_, List·Memᴰ}
 use Prim.Native.Nat.{ℕ, _+_, _≤_}
 use Rattle.tickets.specs.Term.{Term, Num, Own, Gets, even}
 use Rattle.tickets.specs.State.{Rules, Lately, Line, Stage, LoggingIn, AskingHouse, Wish, Key, Asked, Done, Closing, State, Safe, early, isIn, isClosed, start}
-use Rattle.tickets.specs.Event.{Body, ticket, receipt, Event, begins, grants, wants, serves, asks, does, newLine, newWish, newDone, Later, Reach}
+use Rattle.tickets.specs.Event.{Body, ticket, asking, receipt, Event, begins, grants, wants, serves, asks, does, newLine, newWish, newDone, Later, Reach}
 
 -- the deed was asked: by that reader, of that service, under that key and number, in those words, of lately
 pub record Answers (r : Rules) (s : State) (d : Done) (q : Asked) : Type 0 where
@@ -49,6 +49,29 @@ pub record MadeFor (s : State) (b : Body) (m : Key) : Type 0 where
   pub same-key : b .key ≡ even (m .key)
   pub same-until : b .until ≡ m .until
 
+-- what was under way when the key of an asking came: a login of that reader, for the house; an asking of that reader for that service, else
+pub record CameBy (r : Rules) (s : State) (q : Asked) (x : Wish) : Type 0 where
+  pub known : List·Memᴰ x (s .wishes)
+  pub by-reader : x .line .reader ≡ q .line .reader
+  pub same-number : x .number ≡ q .upon
+  pub same-since : x .since ≡ q .since
+  pub login : q .service ≡ r .house → x .stage ≡ LoggingIn
+  pub asking : (q .service ≡ r .house → ⊥) → x .stage ≡ AskingHouse
+  pub for-service : (q .service ≡ r .house → ⊥) → x .line .service ≡ q .service
+  pub from-line : List·Memᴰ (x .line) (s .lines)
+
+-- an asking under the key m that names a service, sent by the reader that the key was made for, to that service
+pub record SentUnder (s : State) (m : Key) (service : ℕ) (number what : Term) (at : ℕ) (q : Asked) : Type 0 where
+  pub known : List·Memᴰ q (s .asked)
+  pub by-reader : q .line .reader ≡ m .who
+  pub of-service : q .service ≡ service
+  pub key-for-service : m .service ≡ service
+  pub same-key : q .key ≡ even (m .key)
+  pub same-number : even (q .number) ≡ number
+  pub in-words : q .what ≡ what
+  pub at-tick : q .at ≡ at
+  pub from-line : List·Memᴰ (q .line) (s .lines)
+
 -- a login that this reader began, no longer than the lag before the key was made upon it
 pub record Began (r : Rules) (s : State) (m : Key) (x : Wish) : Type 0 where
   pub known : List·Memᴰ x (s .wishes)
@@ -56,6 +79,7 @@ pub record Began (r : Rules) (s : State) (m : Key) (x : Wish) : Type 0 where
   pub by-reader : x .line .reader ≡ m .who
   pub same-number : m .upon ≡ even (x .number)
   pub in-time : Lately (early r) (r .lag) (m .at) (x .since)
+  pub from-line : List·Memᴰ (x .line) (s .lines)
 
 -- the six events by which a reader is served from a state, the newest first
 abbrev pub six : Rules → State → (reader service : ℕ) → (what : Term) → List Event
@@ -121,6 +145,12 @@ OwnKept r s = (a : ℕ) → isIn a (s .stolen) ≡ false → Gets (s .air) (Own 
 abbrev pub TicketMade : Rules → State → Type 0
 TicketMade r s = (b : Body) → isIn (r .keyOf (b .service)) (s .stolen) ≡ false → Gets (s .air) (ticket r b) → (m : Key) × MadeFor s b m
 
+-- What opens as an asking under a session key was sent by its reader, to the service that it names and that the key was made for, in those words, at that tick, while no key of the three is stolen.
+abbrev pub AskingMade : Rules → State → Type 0
+AskingMade r s =
+    (m : Key) (v : ℕ) (n w : Term) (t : ℕ) → List·Memᴰ m (s .made) → Safe r (s .stolen) (m .who) (m .service)
+    → Gets (s .air) (asking (even (m .key)) v n w t) → (q : Asked) × SentUnder s m v n w t q
+
 -- Nothing is done as a reader later than one life after the closing, unless the service's key had been stolen by then, whatever else is.
 abbrev pub Over : Rules → State → Type 0
 Over r s =
@@ -140,7 +170,7 @@ LoggedIn r s =
 abbrev pub Fresh : Rules → State → Type 0
 Fresh r s =
     (q : Asked) → List·Memᴰ q (s .asked) → Safe r (q .stolen) (q .line .reader) (r .house)
-    → (m : Key) × MadeUpon s (q .line .reader) (q .service) (q .key) (q .upon) (q .since) m
+    → (x : Wish) × CameBy r s q x × (m : Key) × MadeUpon s (q .line .reader) (q .service) (q .key) (x .number) (x .since) m
 
 -- A receipt under the key and for the number of an asking to a service means that it was done, if no key of the three is stolen.
 abbrev pub Heard : Rules → State → Type 0
@@ -162,6 +192,7 @@ pub record Whole (r : Rules) (s : State) : Type 0 where
   pub kept : Kept r s
   pub own-kept : OwnKept r s
   pub ticket-made : TicketMade r s
+  pub asking-made : AskingMade r s
   pub over : Over r s
   pub no-ticket : NoTicket r s
   pub logged-in : LoggedIn r s

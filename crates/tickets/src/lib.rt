@@ -2,7 +2,7 @@
 // Nothing runs here: each function's contract is a theorem about the definitions in specs/.
 
 ghost use Rattle.tickets.specs.Cases.{WorkedCases};
-ghost use Rattle.tickets.specs.Promise.{Always, AskedFor, Fresh, Granted, Heard, Kept, LoggedIn, Main, NoTicket, Once, OnceByNumber, Over, OwnKept, Served, TicketMade};
+ghost use Rattle.tickets.specs.Promise.{Always, AskedFor, AskingMade, Fresh, Granted, Heard, Kept, LoggedIn, Main, NoTicket, Once, OnceByNumber, Over, OwnKept, Served, TicketMade};
 
 // All the promises together.
 pub fn main_promise()
@@ -34,6 +34,11 @@ pub fn kept()
 // A ticket that opens was made by the house.
 pub fn ticket_made()
     ensures { λ _. ⌜ Always TicketMade ⌝ }
+{}
+
+// An asking that opens was sent by the reader of its key, to the service that it names.
+pub fn asking_made()
+    ensures { λ _. ⌜ Always AskingMade ⌝ }
 {}
 
 // A closed account is over one life later, and gets no ticket.
