@@ -9,7 +9,7 @@ use Rattle.tickets.specs.Term.{Term, Num, Drawn, Own, Pair, Lock, Gets, has, n
 use Rattle.tickets.specs.Term
 use Rattle.tickets.specs.State.{Rules, Line, Stage, LoggingIn, AskingHouse, Wish, Key, Asked, Done, Closing, State, Safe, isIn, relies}
 use Rattle.tickets.specs.Event.{Body, bodyTerm, bodyOf, ticket, letter, asking, login, receipt}
-use Rattle.tickets.specs.Promise.{Answers, AsWanted, MadeUpon, CameBy, Began}
+use Rattle.tickets.specs.Promise.{Answers, AsWanted, MadeUpon, CameBy, Began, WantedBy}
 use Rattle.tickets.specs.State.{anyIn}
 use Rattle.tickets.proofs.Bools
 use Rattle.tickets.proofs.Bools.{Sub, Unsafe, clash, unsafe-reader, unsafe-service, unsafe-house, unsafe-wider, even-injective}
@@ -53,6 +53,7 @@ pub record KeyOk (r : Rules) (s : State) (m : Key) : Type 0 where
   pub upon : Known r s (m .upon)
   pub under : Under r s m
   pub began : m .service ≡ r .house → isIn (m .who) (m .stolen) ≡ false → (x : Wish) × Began r s m x
+  pub wanted : (m .service ≡ r .house → ⊥) → Safe r (m .stolen) (m .who) (r .house) → (q : Asked) × WantedBy r s m q
 
 pub record AskedOk (r : Rules) (s : State) (q : Asked) : Type 0 where
   pub low : q .number < s .next

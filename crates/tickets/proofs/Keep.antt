@@ -7,7 +7,7 @@ use Prim.Native.Nat.{ℕ, _+_, _*_, _≤_, _<_}
 use native.Mathlib.Omega.{arith}
 use Rattle.tickets.specs.Term.{Term, even}
 use Rattle.tickets.specs.State.{Rules, Line, Stage, LoggingIn, AskingHouse, Wish, Key, Asked, Done, Closing, State, Safe, isIn, relies}
-use Rattle.tickets.specs.Promise.{Answers, AsWanted, MadeUpon, CameBy, Began}
+use Rattle.tickets.specs.Promise.{Answers, AsWanted, MadeUpon, CameBy, Began, WantedBy}
 use Rattle.tickets.proofs.Bools.{Sub, Unsafe, clash, anyIn-sub}
 use Rattle.tickets.proofs.Grown.{Grown, same, more, Two, both-old, first-new, second-new, one-new, grown-cases, grown-two, grown-old, unique-grown}
 use Rattle.tickets.proofs.Known.{Known, Grows, known-grows}
@@ -60,6 +60,19 @@ module _ (r : Rules) {s t : State} (g : Grows s t) where
         from-line = g .lines (x .line) (b .from-line);
       }
 
+  wanted-grows : {m : Key} {q : Asked} → WantedBy r s m q → WantedBy r t m q
+  wanted-grows {q = q} b =
+      record {
+        known = g .asked q (b .known);
+        by-reader = b .by-reader;
+        of-house = b .of-house;
+        for-service = b .for-service;
+        same-key = b .same-key;
+        same-number = b .same-number;
+        in-time = b .in-time;
+        from-line = g .lines (q .line) (b .from-line);
+      }
+
   pub came-grows : {q : Asked} {x : Wish} → CameBy r s q x → CameBy r t q x
   came-grows {x = x} b =
       record {
@@ -100,6 +113,7 @@ module _ (r : Rules) {s t : State} (g : Grows s t) where
         upon = known-grows g (o .upon);
         under = under-grows m (o .under);
         began = λ e h. let b = o .began e h in (b .0, began-grows (b .1));
+        wanted = λ e h. let b = o .wanted e h in (b .0, wanted-grows (b .1));
       }
 
   asked-grows : (q : Asked) → AskedOk r s q → AskedOk r t q

@@ -162,6 +162,7 @@ module _ {r : Rules} {s : State} (i : Inv r s) where
       record {
         asked-for = asked-for;
         granted = granted;
+        ticket-asked = λ m h. i .made m h .wanted;
         once = once;
         once-by-number = once-by-number;
         kept = λ m h w k. clash (known-unsafe i m h (gets-known i k)) w;

@@ -164,5 +164,6 @@ module _ {r : Rules} {s : State} (i : Inv r s) where
               from-line = List·Memᴰ·head refl;
             };
         of-line = refl;
+        told = has (List·Memᴰ·head refl);
       },
     )

@@ -11,7 +11,7 @@ use Rattle.tickets.specs.Term.{Term, Num, Drawn, Own, Pair, Lock, Gets, even}
 use Rattle.tickets.specs.State.{Rules, Lately, Line, Stage, LoggingIn, AskingHouse, Wish, Key, Asked, Done, Closing, State, Safe, isIn, isClosed, relies, start}
 use Rattle.tickets.specs.Event
 use Rattle.tickets.specs.Event.{Body, bodyOf, ticket, letterOf, askingOf, loginOf, receipt, Event, after, May, Later, Reach, HearsLogin, Hears, Serves, Does, Takes, HoldsHouse, HoldsService, Wants, newLine, newWish, newAsked, newKey, newDone}
-use Rattle.tickets.specs.Promise.{Answers, AsWanted, MadeUpon, MadeFor, CameBy, Began}
+use Rattle.tickets.specs.Promise.{Answers, AsWanted, MadeUpon, MadeFor, CameBy, Began, WantedBy}
 use Rattle.tickets.proofs.Bools.{Sub, Unsafe, clash, or-cases, or-false-left, or-false-right, isIn-here, isIn-more, sub-refl, sub-more}
 use Rattle.tickets.proofs.Grown.{Grown, same, more, grown-old}
 use Rattle.tickets.proofs.Known
@@ -195,6 +195,7 @@ module _ {r : Rules} {s : State} (i : Inv r s) where
                     upon = known-grows g (upon (login-cases (gets-known i (h .heard))));
                     under = by-own refl;
                     began = λ _ free. began free (login-cases (gets-known i (h .heard)));
+                    wanted = λ w. absurd (w refl);
                   };
               fresh = refl;
               at-now = refl;
@@ -595,6 +596,7 @@ module _ {r : Rules} {s : State} (i : Inv r s) where
                     upon = known-grows g (number-heard i (b .key) (b .service) n (Num v) at (gets-known i (h .hears .asking-heard)));
                     under = under (ticket-used i b n (Num v) at (h .hears));
                     began = λ e. absurd (h .a-service e);
+                    wanted = λ _ safe. wanted (asking-safe i b n (Num v) at (h .hears) (subst (λ (x : ℕ). Safe r (s .stolen) (b .who) x) (sym (h .for-house)) safe));
                   };
               fresh = refl;
               at-now = refl;
@@ -617,6 +619,24 @@ module _ {r : Rules} {s : State} (i : Inv r s) where
 
       g : Grows s t
       g = grows s t (omega arith) (omega arith) (sub-refl (s .stolen)) (sub-refl (s .taken)) same same (more m tt) same (more (newDone s b n (Num v)) tt)
+
+      wanted : (q : Asked) × Sent s b n (Num v) at q → (q : Asked) × WantedBy r t m q
+      wanted (q, f) =
+          let house : q .service ≡ r .house = f .of-service ∙ h .for-house in
+          let asked-words = i .asked q (f .known) .house-what house in
+          let heard-words = f .in-words in (
+            q,
+            record {
+              known = f .known;
+              by-reader = f .by-reader;
+              of-house = house;
+              for-service = cc;
+              same-key = f .same-key;
+              same-number = sym (f .same-number);
+              in-time = subst (λ (x : ℕ). Lately 0 (r .lag) (s .now) x) (sym (f .at-tick)) (h .hears .in-time);
+              from-line = i .asked q (f .known) .line;
+            },
+          )
 
       under : ((m : Key) × MadeFor s b m) ⊎ (Known r s (b .key) × (isIn (r .keyOf (b .service)) (s .stolen) ≡ true)) → Under r t m
       under (inl (o, f)) =

@@ -81,6 +81,17 @@ pub record Began (r : Rules) (s : State) (m : Key) (x : Wish) : Type 0 where
   pub in-time : Lately (early r) (r .lag) (m .at) (x .since)
   pub from-line : List·Memᴰ (x .line) (s .lines)
 
+-- an asking for the house by this reader, by a line for the key's service, no longer than the lag before the key was made upon it
+pub record WantedBy (r : Rules) (s : State) (m : Key) (q : Asked) : Type 0 where
+  pub known : List·Memᴰ q (s .asked)
+  pub by-reader : q .line .reader ≡ m .who
+  pub of-house : q .service ≡ r .house
+  pub for-service : q .line .service ≡ m .service
+  pub same-key : q .key ≡ m .under
+  pub same-number : m .upon ≡ even (q .number)
+  pub in-time : Lately (early r) (r .lag) (m .at) (q .at)
+  pub from-line : List·Memᴰ (q .line) (s .lines)
+
 -- the six events by which a reader is served from a state, the newest first
 abbrev pub six : Rules → State → (reader service : ℕ) → (what : Term) → List Event
 six r s a v w =
@@ -92,7 +103,7 @@ six r s a v w =
     ∷ begins a v w
     ∷ []
 
--- after the six events: the same tick, nothing stolen or closed, one line more, and a new deed of just this line
+-- after the six events: the same tick, nothing stolen or closed, one line more, a new deed of just this line, and a receipt for it
 pub record ServedBy (r : Rules) (s : State) (a v : ℕ) (w : Term) (t : State) : Type 0 where
   pub possible : Later r s (six r s a v w) t
   pub same-tick : t .now ≡ s .now
@@ -109,6 +120,7 @@ pub record ServedBy (r : Rules) (s : State) (a v : ℕ) (w : Term) (t : State) :
   pub the-asking : Asked
   pub accounts : Answers r t deed the-asking
   pub of-line : the-asking .line ≡ newLine s a v w
+  pub told : Gets (t .air) (receipt (the-asking .key) (even (the-asking .number)))
 
 -- What a service did, the reader asked of it, in those words, not later and no more than the lag before, from a line of that reader that says the same; unless a key of the three had been stolen by then.
 abbrev pub AskedFor : Rules → State → Type 0
@@ -120,6 +132,11 @@ abbrev pub Granted : Rules → State → Type 0
 Granted r s =
     (d : Done) → List·Memᴰ d (s .done) → d .service ≡ r .house → Safe r (d .stolen) (d .who) (d .service)
     → (q : Asked) × Answers r s d q × (Num (q .line .service) ≡ d .what)
+
+-- A ticket for a service is made only upon an asking for the house by this reader, by a line for that service, no longer than the lag before, unless the reader's or the house's key had been stolen by then.
+abbrev pub TicketAsked : Rules → State → Type 0
+TicketAsked r s =
+    (m : Key) → List·Memᴰ m (s .made) → (m .service ≡ r .house → ⊥) → Safe r (m .stolen) (m .who) (r .house) → (q : Asked) × WantedBy r s m q
 
 -- Two deeds of services come from different lines, unless a key on which the later one relies had been stolen by then.
 abbrev pub Once : Rules → State → Type 0
@@ -187,6 +204,7 @@ Served r s =
 pub record Whole (r : Rules) (s : State) : Type 0 where
   pub asked-for : AskedFor r s
   pub granted : Granted r s
+  pub ticket-asked : TicketAsked r s
   pub once : Once r s
   pub once-by-number : OnceByNumber r s
   pub kept : Kept r s

@@ -2,7 +2,7 @@
 // Nothing runs here: each function's contract is a theorem about the definitions in specs/.
 
 ghost use Rattle.tickets.specs.Cases.{WorkedCases};
-ghost use Rattle.tickets.specs.Promise.{Always, AskedFor, AskingMade, Fresh, Granted, Heard, Kept, LoggedIn, Main, NoTicket, Once, OnceByNumber, Over, OwnKept, Served, TicketMade};
+ghost use Rattle.tickets.specs.Promise.{Always, AskedFor, AskingMade, Fresh, Granted, Heard, Kept, LoggedIn, Main, NoTicket, Once, OnceByNumber, Over, OwnKept, Served, TicketAsked, TicketMade};
 
 // All the promises together.
 pub fn main_promise()
@@ -16,7 +16,8 @@ pub fn asked_for()
 
 // A ticket that the house gives by a ticket was asked for.
 pub fn granted()
-    ensures { λ _. ⌜ Always Granted ⌝ }
+    ensures deeds { λ _. ⌜ Always Granted ⌝ }
+    ensures tickets { λ _. ⌜ Always TicketAsked ⌝ }
 {}
 
 // One line of a reader leads to one deed at most.
