@@ -9,7 +9,7 @@ use Rattle.tickets.specs.Term.{Term, Num, Drawn, Own, Pair, Lock, Gets, has, n
 use Rattle.tickets.specs.Term
 use Rattle.tickets.specs.State.{Rules, Line, Stage, LoggingIn, AskingHouse, Wish, Key, Asked, Done, Closing, State, Safe, isIn, relies}
 use Rattle.tickets.specs.Event.{Body, bodyTerm, bodyOf, ticket, letter, asking, login, receipt}
-use Rattle.tickets.specs.Promise.{Answers, AsWanted, MadeUpon, CameBy, Began, WantedBy}
+use Rattle.tickets.specs.Promise.{Answers, AsWanted, MadeUpon, CameBy, Began, WantedBy, GaveKey}
 use Rattle.tickets.specs.State.{anyIn}
 use Rattle.tickets.proofs.Bools
 use Rattle.tickets.proofs.Bools.{Sub, Unsafe, clash, unsafe-reader, unsafe-service, unsafe-house, unsafe-wider, even-injective}
@@ -78,6 +78,7 @@ pub record DoneOk (r : Rules) (s : State) (d : Done) : Type 0 where
   pub number : Known r s (d .number)
   pub ticketed : Ticketed r s d
   pub answers : Safe r (d .stolen) (d .who) (d .service) → (q : Asked) × Answers r s d q
+  pub gave : d .service ≡ r .house → (m : Key) × GaveKey s d m
 
 -- no deed before is of the same service, key and number
 abbrev pub NotBefore : Rules → Done → List Done → Type 0

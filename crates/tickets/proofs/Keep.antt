@@ -7,7 +7,7 @@ use Prim.Native.Nat.{ℕ, _+_, _*_, _≤_, _<_}
 use native.Mathlib.Omega.{arith}
 use Rattle.tickets.specs.Term.{Term, even}
 use Rattle.tickets.specs.State.{Rules, Line, Stage, LoggingIn, AskingHouse, Wish, Key, Asked, Done, Closing, State, Safe, isIn, relies}
-use Rattle.tickets.specs.Promise.{Answers, AsWanted, MadeUpon, CameBy, Began, WantedBy}
+use Rattle.tickets.specs.Promise.{Answers, AsWanted, MadeUpon, CameBy, Began, WantedBy, GaveKey}
 use Rattle.tickets.proofs.Bools.{Sub, Unsafe, clash, anyIn-sub}
 use Rattle.tickets.proofs.Grown.{Grown, same, more, Two, both-old, first-new, second-new, one-new, grown-cases, grown-two, grown-old, unique-grown}
 use Rattle.tickets.proofs.Known.{Known, Grows, known-grows}
@@ -71,6 +71,17 @@ module _ (r : Rules) {s t : State} (g : Grows s t) where
         same-number = b .same-number;
         in-time = b .in-time;
         from-line = g .lines (q .line) (b .from-line);
+      }
+
+  gave-grows : {d : Done} {m : Key} → GaveKey s d m → GaveKey t d m
+  gave-grows {m = m} b =
+      record {
+        known = g .made m (b .known);
+        for-reader = b .for-reader;
+        for-service = b .for-service;
+        same-number = b .same-number;
+        same-key = b .same-key;
+        same-tick = b .same-tick;
       }
 
   pub came-grows : {q : Asked} {x : Wish} → CameBy r s q x → CameBy r t q x
@@ -143,6 +154,7 @@ module _ (r : Rules) {s t : State} (g : Grows s t) where
         number = known-grows g (o .number);
         ticketed = go (o .ticketed);
         answers = λ w. let b = o .answers w in (b .0, answers-grows (b .1));
+        gave = λ e. let b = o .gave e in (b .0, gave-grows (b .1));
       }
     where
       go : Ticketed r s d → Ticketed r t d

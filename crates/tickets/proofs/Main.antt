@@ -162,6 +162,7 @@ module _ {r : Rules} {s : State} (i : Inv r s) where
       record {
         asked-for = asked-for;
         granted = granted;
+        house-gave = λ d h. i .done d h .gave;
         ticket-asked = λ m h. i .made m h .wanted;
         once = once;
         once-by-number = once-by-number;

@@ -11,7 +11,7 @@ use Rattle.tickets.specs.Term.{Term, Num, Drawn, Own, Pair, Lock, Gets, even}
 use Rattle.tickets.specs.State.{Rules, Lately, Line, Stage, LoggingIn, AskingHouse, Wish, Key, Asked, Done, Closing, State, Safe, isIn, isClosed, relies, start}
 use Rattle.tickets.specs.Event
 use Rattle.tickets.specs.Event.{Body, bodyOf, ticket, letterOf, askingOf, loginOf, receipt, Event, after, May, Later, Reach, HearsLogin, Hears, Serves, Does, Takes, HoldsHouse, HoldsService, Wants, newLine, newWish, newAsked, newKey, newDone}
-use Rattle.tickets.specs.Promise.{Answers, AsWanted, MadeUpon, MadeFor, CameBy, Began, WantedBy}
+use Rattle.tickets.specs.Promise.{Answers, AsWanted, MadeUpon, MadeFor, CameBy, Began, WantedBy, GaveKey}
 use Rattle.tickets.proofs.Bools.{Sub, Unsafe, clash, or-cases, or-false-left, or-false-right, isIn-here, isIn-more, sub-refl, sub-more}
 use Rattle.tickets.proofs.Grown.{Grown, same, more, grown-old}
 use Rattle.tickets.proofs.Known
@@ -520,14 +520,16 @@ module _ {r : Rules} {s : State} (i : Inv r s) where
       )
 
   -- what is done upon a ticket and an asking that were heard
-  done-ok : (t : State) → Grows s t → (b : Body) (n w : Term) (at : ℕ) → Hears r s b n w at → DoneOk r t (newDone s b n w)
-  done-ok t g b n w at h =
+  done-ok : (t : State) → Grows s t → (b : Body) (n w : Term) (at : ℕ) → Hears r s b n w at
+      → (b .service ≡ r .house → (m : Key) × GaveKey t (newDone s b n w) m) → DoneOk r t (newDone s b n w)
+  done-ok t g b n w at h gave =
       record {
         past = g .now-le;
         thefts = g .thefts;
         number = known-grows g (number-heard i (b .key) (b .service) n w at (gets-known i (h .asking-heard)));
         ticketed = ticketed (ticket-used i b n w at h);
         answers = λ safe. answers (asking-safe i b n w at h safe);
+        gave = gave;
       }
     where
       ticketed : ((m : Key) × MadeFor s b m) ⊎ (Known r s (b .key) × (isIn (r .keyOf (b .service)) (s .stolen) ≡ true)) → Ticketed r t (newDone s b n w)
@@ -564,7 +566,7 @@ module _ {r : Rules} {s : State} (i : Inv r s) where
         asked = same;
         done =
             more (newDone s b n w)
-            (record { ok = done-ok t g b n w at (h .hears); once = λ e k safe. first-time i b n w at (h .hears) safe e k });
+            (record { ok = done-ok t g b n w at (h .hears) (λ e. absurd (h .a-service e)); once = λ e k safe. first-time i b n w at (h .hears) safe e k });
         taken = taken-below t (omega arith);
       }
     where
@@ -607,7 +609,7 @@ module _ {r : Rules} {s : State} (i : Inv r s) where
         asked = same;
         done =
             more (newDone s b n (Num v))
-            (record { ok = done-ok t g b n (Num v) at (h .hears); once = λ e k safe. first-time i b n (Num v) at (h .hears) safe e k });
+            (record { ok = done-ok t g b n (Num v) at (h .hears) (λ _. gave); once = λ e k safe. first-time i b n (Num v) at (h .hears) safe e k });
         taken = taken-below t (omega arith);
       }
     where
@@ -619,6 +621,12 @@ module _ {r : Rules} {s : State} (i : Inv r s) where
 
       g : Grows s t
       g = grows s t (omega arith) (omega arith) (sub-refl (s .stolen)) (sub-refl (s .taken)) same same (more m tt) same (more (newDone s b n (Num v)) tt)
+
+      gave : (k : Key) × GaveKey t (newDone s b n (Num v)) k
+      gave = (
+        m,
+        record { known = List·Memᴰ·head refl; for-reader = refl; for-service = refl; same-number = refl; same-key = refl; same-tick = refl },
+      )
 
       wanted : (q : Asked) × Sent s b n (Num v) at q → (q : Asked) × WantedBy r t m q
       wanted (q, f) =

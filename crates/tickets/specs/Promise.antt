@@ -92,6 +92,15 @@ pub record WantedBy (r : Rules) (s : State) (m : Key) (q : Asked) : Type 0 where
   pub in-time : Lately (early r) (r .lag) (m .at) (q .at)
   pub from-line : List·Memᴰ (q .line) (s .lines)
 
+-- the key that the house made by a deed of its own
+pub record GaveKey (s : State) (d : Done) (m : Key) : Type 0 where
+  pub known : List·Memᴰ m (s .made)
+  pub for-reader : m .who ≡ d .who
+  pub for-service : Num (m .service) ≡ d .what
+  pub same-number : m .upon ≡ d .number
+  pub same-key : m .under ≡ d .key
+  pub same-tick : m .at ≡ d .at
+
 -- the six events by which a reader is served from a state, the newest first
 abbrev pub six : Rules → State → (reader service : ℕ) → (what : Term) → List Event
 six r s a v w =
@@ -132,6 +141,10 @@ abbrev pub Granted : Rules → State → Type 0
 Granted r s =
     (d : Done) → List·Memᴰ d (s .done) → d .service ≡ r .house → Safe r (d .stolen) (d .who) (d .service)
     → (q : Asked) × Answers r s d q × (Num (q .line .service) ≡ d .what)
+
+-- Whatever the house does is to give a ticket, to that reader and for the service that the words name, whatever is stolen.
+abbrev pub HouseGave : Rules → State → Type 0
+HouseGave r s = (d : Done) → List·Memᴰ d (s .done) → d .service ≡ r .house → (m : Key) × GaveKey s d m
 
 -- A ticket for a service is made only upon an asking for the house by this reader, by a line for that service, no longer than the lag before, unless the reader's or the house's key had been stolen by then.
 abbrev pub TicketAsked : Rules → State → Type 0
@@ -204,6 +217,7 @@ Served r s =
 pub record Whole (r : Rules) (s : State) : Type 0 where
   pub asked-for : AskedFor r s
   pub granted : Granted r s
+  pub house-gave : HouseGave r s
   pub ticket-asked : TicketAsked r s
   pub once : Once r s
   pub once-by-number : OnceByNumber r s

@@ -2,7 +2,7 @@
 // Nothing runs here: each function's contract is a theorem about the definitions in specs/.
 
 ghost use Rattle.tickets.specs.Cases.{WorkedCases};
-ghost use Rattle.tickets.specs.Promise.{Always, AskedFor, AskingMade, Fresh, Granted, Heard, Kept, LoggedIn, Main, NoTicket, Once, OnceByNumber, Over, OwnKept, Served, TicketAsked, TicketMade};
+ghost use Rattle.tickets.specs.Promise.{Always, AskedFor, AskingMade, Fresh, Granted, Heard, HouseGave, Kept, LoggedIn, Main, NoTicket, Once, OnceByNumber, Over, OwnKept, Served, TicketAsked, TicketMade};
 
 // All the promises together.
 pub fn main_promise()
@@ -17,6 +17,7 @@ pub fn asked_for()
 // A ticket that the house gives by a ticket was asked for.
 pub fn granted()
     ensures deeds { λ _. ⌜ Always Granted ⌝ }
+    ensures given { λ _. ⌜ Always HouseGave ⌝ }
     ensures tickets { λ _. ⌜ Always TicketAsked ⌝ }
 {}
 
