@@ -1,19 +1,21 @@
 -- Every row of the table of worked cases holds. Assumes nothing.
 use mathlib.Core.Path.{_≡_, refl, sym, subst, _∙_, ap}
-use mathlib.Core.Bool.{Bool, true, false, cond}
+use mathlib.Core.Bool.{true, false, cond}
 use mathlib.Core.Logic.{_⊎_, inl, inr}
 use mathlib.Core.List.{List, [], _∷_, _++_, List·Memᴰ, List·Memᴰ·head, List·Memᴰ·tail, List·Memᴰ·cases-cons, List·Memᴰ·not-nil}
-use Prim.Native.Nat.{ℕ, zero, suc, _+_, _*_, _≤_, _<_}
+use Prim.Native.Nat.{ℕ, zero, suc, _+_, _*_, _≤_}
 use native.Mathlib.Omega.{arith}
 use lib.Dec.{eqb}
 use borrow.Author.Tests.{eqb-true, eq-eqb}
 use Rattle.tickets.specs.Term.{Term, Num, Drawn, Own, Pair, Lock, Gets, has, num, odd, pair, left, right, lock, open′, even}
-use Rattle.tickets.specs.State.{Rules, Lately, Key, Asked, Done, Closing, State, Safe, isIn, isClosed, start}
+use Rattle.tickets.specs.State.{Rules, keep, Key, Asked, Done, State, isIn, isClosed, start}
 use Rattle.tickets.specs.Event
-use Rattle.tickets.specs.Event.{Body, ticket, asking, Event, after, May, Hears, DoneBefore, Later, Reach}
-use Rattle.tickets.specs.Promise.{Origin, by-reader, six, MadeFor}
+use Rattle.tickets.specs.Event.{Body, ticket, asking, Event, after, May, DoneBefore, Later, Reach}
+use Rattle.tickets.specs.Promise.{Origin, by-reader, six}
 use Rattle.tickets.specs.Cases
-use Rattle.tickets.specs.Cases.{runs, waits, Why, NotLately, TicketOver, DoneAlready, Right, WrongOnly, Deed, DeedWith, Holds, Each, RowHolds, rules, plain, slip, login100, held100, houseTicket, ticket7, wish200, held200, loggedIn, asked200, done200, closed300, asksAgain, tries, stolen5, asFive, theirHouseTicket, theirTicket7, otherTicket7, twoTickets, madeUp, rowA, rowB201, rowB206, rowC301, rowC-open, rowC1200, rowC1201, rowD, rowE, rowF, rowF-slip, rowG, WorkedCases}
+use Rattle.tickets.specs.Cases.{runs, waits, Why, NotLately, TicketOver, DoneAlready, Right, Holds, RowHolds, rules, plain, WorkedCases}
+use Rattle.tickets.specs.Cases.{login100, held100, houseTicket, ticket7, wish200, held200, loggedIn, asked200, done200, closed300, asksAgain, tries, stolen5, asFive, theirHouseTicket, theirTicket7, otherTicket7, twoTickets, madeUp}
+use Rattle.tickets.specs.Cases.{rowA, rowB201, rowB206, rowC301, rowC-open, rowC1200, rowC1201, rowD, rowE, rowF, rowF-slip, rowG}
 use Rattle.tickets.proofs.Bools.{clash, either}
 use Rattle.tickets.proofs.Main.{main}
 
@@ -230,7 +232,7 @@ module _ where
     where
       forgotten : (d : DoneBefore plain (runs plain (waits 6 done200) start) 7 (even 5) (even 6)) → ⊥
       forgotten d =
-          first-old (λ (x : Done). drawnOf (x .number)) 12 5 206 _ _ (λ h. omega arith) (refl, tt) (d .deed) (d .known) (ap drawnOf (d .same-number)) (d .remembered)
+          first-old (λ (x : Done). drawnOf (x .number)) 12 (keep plain) 206 _ _ (λ h. omega arith) (refl, tt) (d .deed) (d .known) (ap drawnOf (d .same-number)) (d .remembered)
 
       others : (y : Why) → (y ≡ NotLately → ⊥) → Right plain (runs plain (waits 6 done200) start) ticket7 (even 6) 200 y
       others NotLately h = absurd (h refl)

@@ -1,12 +1,12 @@
 -- Worked cases: what happened, row by row, and what is so then. The proofs are in proofs/Cases.antt.
 -- A row: the rules, the events with the newest first, and claims about the state that they leave. Assumes nothing.
 use mathlib.Core.Path.{_≡_}
-use mathlib.Core.Bool.{Bool, true, false, cond}
+use mathlib.Core.Bool.{cond}
 use mathlib.Core.List.{List, [], _∷_, _++_, List·Memᴰ}
 use Prim.Native.Nat.{ℕ, zero, suc, _+_}
 use lib.Dec.{eqb}
 use Rattle.tickets.specs.Term.{Term, Num, Drawn, Own, Gets, even}
-use Rattle.tickets.specs.State.{Rules, Lately, Good, early, Line, Stage, LoggingIn, AskingHouse, Wish, Key, Asked, Done, State, Safe, start}
+use Rattle.tickets.specs.State.{Rules, Lately, Good, early, Line, LoggingIn, AskingHouse, Wish, Key, Asked, Done, State, Safe, start}
 use Rattle.tickets.specs.Event.{Body, ticket, asking, Event, ticks, steals, closes, begins, grants, wants, wish, again, serves, asks, does, after, May, DoneBefore, Reach}
 use Rattle.tickets.specs.Promise.{Origin, MadeFor, six}
 
@@ -91,8 +91,8 @@ pub data Claim : Type 0 where
   -- this was done under this key and number
   DoneUnder : (service : ℕ) → (key number : Term) → Claim
   -- such a deed comes from a line of its reader; it comes from no line
-  Asked-for : Deed → Claim
-  Unasked : Deed → Claim
+  FromLine : Deed → Claim
+  FromNoLine : Deed → Claim
   -- the promises speak of this reader and service; they don't
   Speaks : (who service : ℕ) → Claim
   Silent : (who service : ℕ) → Claim
@@ -124,8 +124,8 @@ Holds r s (CanHave t) = Gets (s .air) t
 Holds r s (CannotHave t) = Gets (s .air) t → ⊥
 Holds r s (GivenBut v) = (b : Body) → (b .service ≡ v → ⊥) → Gets (s .air) (ticket r b) → (m : Key) × MadeFor s b m
 Holds r s (DoneUnder v k n) = DoneBefore r s v k n
-Holds r s (Asked-for x) = DeedWith r s x (λ d. Origin r s d)
-Holds r s (Unasked x) = DeedWith r s x (λ d. Origin r s d → ⊥)
+Holds r s (FromLine x) = DeedWith r s x (λ d. Origin r s d)
+Holds r s (FromNoLine x) = DeedWith r s x (λ d. Origin r s d → ⊥)
 Holds r s (Speaks a v) = Safe r (s .stolen) a v
 Holds r s (Silent a v) = Safe r (s .stolen) a v → ⊥
 
@@ -214,7 +214,7 @@ rowA =
           ∷ Tickets (given200 ∷ given100 ∷ [])
           ∷ Deeds (deed200 ∷ grant200 ∷ [])
           ∷ Lines (line200 ∷ line100 ∷ [])
-          ∷ Asked-for deed200
+          ∷ FromLine deed200
           ∷ [];
     }
 
@@ -335,11 +335,11 @@ rowE =
           ∷ [])
           ∷ Lines (record { id = 3; reader = 6; service = 7; what = Num 42; at = 100 } ∷ [])
           ∷ Silent 5 7
-          ∷ Unasked (record { service = 7; who = 5; what = Num 41; at = 100 })
+          ∷ FromNoLine (record { service = 7; who = 5; what = Num 41; at = 100 })
           ∷ CanHave (even 1)
           ∷ CanHave (even 2)
           ∷ Speaks 6 7
-          ∷ Asked-for (record { service = 7; who = 6; what = Num 42; at = 100 })
+          ∷ FromLine (record { service = 7; who = 6; what = Num 42; at = 100 })
           ∷ CannotHave (even 4)
           ∷ CannotHave (even 6)
           ∷ CannotHave (Own 6)
