@@ -651,7 +651,7 @@ module _ where
                     is-new = new-key plain (runs plain one start) 7 6 (Drawn 7) (refl, (refl, (refl, tt)));
                   };
             });
-        claimed = (refl, (first-done, (other-done, (λ m. m .hears .is-new first-done, tt))));
+        claimed = (refl, (first-done, (other-done, (λ m. m .hears .is-new first-done, (λ m. m .hears .is-new other-done, tt)))));
       }
     where
       first-done : DoneBefore plain (runs plain (rowG .events) start) 7 (even 2) (Drawn 7)

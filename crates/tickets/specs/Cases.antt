@@ -383,7 +383,7 @@ otherTicket7 = record { service = 7; who = 5; key = even 3; until = 1100 }
 abbrev pub twoTickets : List Event
 twoTickets = serves theirHouseTicket (Drawn 5) 7 100 ∷ serves theirHouseTicket (Drawn 3) 7 100 ∷ grants 5 (Drawn 1) 100 ∷ stolen5
 
--- G: two askings with one number under two keys are both done
+-- G: two askings with one number under two keys are both done, and neither again
 abbrev pub rowG : Row
 rowG =
     record {
@@ -399,6 +399,7 @@ rowG =
           ∷ DoneUnder 7 (even 2) (Drawn 7)
           ∷ DoneUnder 7 (even 3) (Drawn 7)
           ∷ Refused (does theirTicket7 (Drawn 7) (Num 61) 100)
+          ∷ Refused (does otherTicket7 (Drawn 7) (Num 61) 100)
           ∷ [];
     }
 
