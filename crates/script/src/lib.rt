@@ -1,0 +1,2 @@
+// Scripts: the reading of their lines, and the town that they play.
+pub mod words;
