@@ -1,11 +1,12 @@
 -- A scan from the left, one byte further: how `before`, `digits` and `hexes` go on. Assumes nothing.
 use mathlib.Core.Path.{_≡_, refl, sym, ap, _∙_}
 use mathlib.Core.Bool.{true, false, not, cond}
+use mathlib.Core.Logic.{⊎-elim}
 use mathlib.Core.List.{List, [], _∷_, _++_, map, append-assoc}
 use Prim.Native.Nat.{ℕ, _+_, _-_, _*_, _^_, _≤_, _<_, min}
 use native.Mathlib.Omega.{arith}
-use lib.Dec.{eqb}
-use lib.ListN.{length, getD, set, take, drop}
+use lib.Dec.{eqb, ltb}
+use lib.ListN.{length, getD, set, take, drop, length-drop}
 use lib.Seq.{drop-cons, set-at}
 use Rattle.std.proofs.shelf.Counted.{map-counting-more, length-map-counting}
 use native.Mathlib.Numerals.{add-one}
@@ -16,8 +17,8 @@ use Rattle.std.specs.Text.{asciiDigit, digitValue}
 use Rattle.std.specs.declared.option.Option.the-variants.{None, Some}
 use Rattle.std.proofs.shelf.Sums.{leading-drop-yes, leading-drop-no, leading-drop-all, leading-le-length}
 use Rattle.std.proofs.shelf.Ways.{tells}
-use Rattle.std.proofs.shelf.Tests.{eq-eqb, ne-eqb, cond-true, cond-false}
-use Rattle.script.specs.Text.{before, digits, numberOf, nibbleOf, hexes, allHex, octetAt}
+use Rattle.std.proofs.shelf.Tests.{eq-eqb, ne-eqb, ltb-true, cond-true, cond-false, cases-bool}
+use Rattle.script.specs.Text.{before, cutAt, digits, numberOf, nibbleOf, hexes, allHex, octetAt}
 
 module _ (b : ℕ) (s : List ℕ) (i : ℕ) where
   pub before-here : i < length s → getD s i 0 ≡ b → before b (drop i s) ≡ 0
@@ -87,3 +88,15 @@ octets-more s old i h =
     ∙ set-at (map (octetAt s) (counting 0 i)) (getD old i 0) _ (octetAt s i) i (length-map-counting (octetAt s) 0 i)
     ∙ sym (append-assoc (map (octetAt s) (counting 0 i)) (octetAt s i ∷ []) _)
     ∙ (λ j. sym (map-counting-more (octetAt s) 0 i i (omega arith)) j ++ drop (sym (add-one i) j) old)
+
+pub cut-shorter : (b : ℕ) (s : List ℕ) (p : List ℕ × List ℕ) → cutAt b s ≡ Some p → length (p .1) < length s
+unfolding cutAt
+cut-shorter b s p e = ⊎-elim
+    (λ h.
+        let q = sym (cond-true _ _ _ h) ∙ e in
+        let back : drop (before b s + 1) s ≡ p .1 = cc in
+        omega (arith, ltb-true (before b s) (length s) h, ap length back, length-drop (before b s + 1) s))
+    (λ h.
+        let q = sym (cond-false _ _ _ h) ∙ e in
+        let z : _≡_ {A = ℕ} 0 1 = cc in omega arith)
+    (cases-bool (ltb (before b s) (length s)))

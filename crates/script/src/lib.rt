@@ -1,2 +1,4 @@
 // Scripts: the reading of their lines, and the town that they play.
+pub mod lines;
+pub mod town;
 pub mod words;

@@ -3,6 +3,7 @@ ghost use mathlib.Core.Path.{_≡_};
 ghost use mathlib.Core.List.{_++_};
 ghost use Prim.Native.Nat.{_≤_, _/_};
 ghost use lib.ListN.{length, drop};
+ghost use Rattle.std.specs.shelf.Text.{sameBytes};
 ghost use Rattle.std.specs.declared.option.Option.the-variants.{None, Some};
 ghost use Rattle.script.specs.Text.{before, cutAt, numberOf, decimalOf, nibbleOf, octetOf, allHex, octets, keyOf, principalOf, decimalThen, principalThen};
 
@@ -34,6 +35,13 @@ pub fn cut(text: &[u8], at: u8) -> Option<(&[u8], &[u8])>
     } else {
         None
     }
+}
+
+// Whether a word is that text.
+pub fn same(word: &[u8], text: &[u8]) -> bool
+    ensures { λ r. ⌜ r ≡ sameBytes (now (word .entry)) (now (text .entry)) ⌝ }
+{
+    word == text
 }
 
 // A decimal with no sign and no leading zero; the largest u64 stands for all that are larger.
