@@ -1,2 +1,3 @@
 pub mod Grammar
+pub mod Play
 pub mod Text
