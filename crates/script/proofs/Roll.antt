@@ -31,9 +31,9 @@ module _ (n : ℕ) (s : List Account) (i : ℕ) where
   there-on d h e =
       ap (λ j. there n (drop j s)) (add-one i)
       ∙ sym
-        (ap (there n) (drop-cons s i d h)
-        ∙ there-cons n (getD s i d) (drop (suc i) s)
-        ∙ ap (λ b. b || there n (drop (suc i) s)) (ne-eqb (getD s i d .number) n e))
+      (ap (there n) (drop-cons s i d h)
+      ∙ there-cons n (getD s i d) (drop (suc i) s)
+      ∙ ap (λ b. b || there n (drop (suc i) s)) (ne-eqb (getD s i d .number) n e))
 
   pub there-end : length s ≤ i → there n (drop i s) ≡ false
   there-end h = ap (there n) (drop-all i s h) ∙ there-none n

@@ -93,10 +93,10 @@ pub cut-shorter : (b : ℕ) (s : List ℕ) (p : List ℕ × List ℕ) → cutAt 
 unfolding cutAt
 cut-shorter b s p e = ⊎-elim
     (λ h.
-        let q = sym (cond-true _ _ _ h) ∙ e in
-        let back : drop (before b s + 1) s ≡ p .1 = cc in
-        omega (arith, ltb-true (before b s) (length s) h, ap length back, length-drop (before b s + 1) s))
+    let q = sym (cond-true _ _ _ h) ∙ e in
+    let back : drop (before b s + 1) s ≡ p .1 = cc in
+    omega (arith, ltb-true (before b s) (length s) h, ap length back, length-drop (before b s + 1) s))
     (λ h.
-        let q = sym (cond-false _ _ _ h) ∙ e in
-        let z : _≡_ {A = ℕ} 0 1 = cc in omega arith)
+    let q = sym (cond-false _ _ _ h) ∙ e in
+    let z : _≡_ {A = ℕ} 0 1 = cc in omega arith)
     (cases-bool (ltb (before b s) (length s)))

@@ -28,25 +28,25 @@ restOf t = elim (cutAt 10 t) [ None ↦ [] | Some p ↦ p .1 ]
 -- TICK LIFE LAG SEED
 abbrev pub settingsOf : List ℕ → Option Settings
 settingsOf s =
-  andThen (decimalThen s) (λ a.
-  andThen (decimalThen (a .1)) (λ b.
-  andThen (decimalThen (b .1)) (λ c.
-  andThen (keyOf (c .1)) (λ k.
-  Some (record { tick = a .0; life = b .0; lag = c .0; seed = k })))))
+    andThen (decimalThen s) (λ a.
+    andThen (decimalThen (a .1)) (λ b.
+    andThen (decimalThen (b .1)) (λ c.
+    andThen (keyOf (c .1)) (λ k.
+    Some (record { tick = a .0; life = b .0; lag = c .0; seed = k })))))
 
 -- N KEY
 abbrev pub accountOf : List ℕ → Option Account
 accountOf s =
-  andThen (principalThen s) (λ n.
-  andThen (keyOf (n .1)) (λ k.
-  Some (record { number = n .0; key = k })))
+    andThen (principalThen s) (λ n.
+    andThen (keyOf (n .1)) (λ k.
+    Some (record { number = n .0; key = k })))
 
 abbrev pub verbOf : List ℕ → Option Verb
 verbOf s =
-  cond (sameBytes s (codes "town")) (Some verb.Town)
-  (cond (sameBytes s (codes "reader")) (Some verb.Reader)
-  (cond (sameBytes s (codes "service")) (Some verb.Service)
-  (cond (sameBytes s (codes "tick")) (Some verb.Tick) None)))
+    cond (sameBytes s (codes "town")) (Some verb.Town)
+    (cond (sameBytes s (codes "reader")) (Some verb.Reader)
+    (cond (sameBytes s (codes "service")) (Some verb.Service)
+    (cond (sameBytes s (codes "tick")) (Some verb.Tick) None)))
 
 -- what a verb says of the words after it
 abbrev pub saysOf : Verb → List ℕ → Option Line
@@ -58,7 +58,7 @@ saysOf verb.Tick s = andThen (decimalOf s) (λ x. Some (line.Tick x))
 -- a verb, a space, and what it says
 abbrev pub sayingOf : List ℕ → Option Line
 sayingOf s =
-  andThen (cutAt 32 s) (λ p. andThen (verbOf (p .0)) (λ v. saysOf v (p .1)))
+    andThen (cutAt 32 s) (λ p. andThen (verbOf (p .0)) (λ v. saysOf v (p .1)))
 
 -- an empty line, or a comment
 abbrev pub silent : List ℕ → Bool

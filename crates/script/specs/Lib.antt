@@ -1,3 +1,4 @@
 pub mod Grammar
 pub mod Play
+pub mod Shown
 pub mod Text

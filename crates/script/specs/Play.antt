@@ -55,11 +55,11 @@ inRange x = ltb (x .tick) (2 ^ 63) && leb 1 (x .life) && leb (x .life) 86400 && 
 -- the town opens with settings in range
 abbrev pub opened : Seen → Settings → Outcome
 opened s x = cond (inRange x)
-  (record {
-    town = record { settings = Some x; tick = x .tick; readers = s .readers; services = s .services };
-    answer = answers.Town (x .tick) (x .life) (x .lag);
-  })
-  (refused s)
+    (record {
+      town = record { settings = Some x; tick = x .tick; readers = s .readers; services = s .services };
+      answer = answers.Town (x .tick) (x .life) (x .lag);
+    })
+    (refused s)
 
 -- one of them has that number
 unfoldable pub there : ℕ → List Account → Bool
@@ -73,29 +73,29 @@ known s n = there n (s .readers) || there n (s .services)
 -- one more reader, up to 16, of a new number
 abbrev pub withReader : Seen → Account → Outcome
 withReader s a = cond (leb 16 (length (s .readers)) || known s (a .number))
-  (refused s)
-  (record {
-    town = record { settings = s .settings; tick = s .tick; readers = s .readers ++ a ∷ []; services = s .services };
-    answer = answers.Reader (a .number);
-  })
+    (refused s)
+    (record {
+      town = record { settings = s .settings; tick = s .tick; readers = s .readers ++ a ∷ []; services = s .services };
+      answer = answers.Reader (a .number);
+    })
 
 -- one more service, up to 8, of a new number
 abbrev pub withService : Seen → Account → Outcome
 withService s a = cond (leb 8 (length (s .services)) || known s (a .number))
-  (refused s)
-  (record {
-    town = record { settings = s .settings; tick = s .tick; readers = s .readers; services = s .services ++ a ∷ [] };
-    answer = answers.Service (a .number);
-  })
+    (refused s)
+    (record {
+      town = record { settings = s .settings; tick = s .tick; readers = s .readers; services = s .services ++ a ∷ [] };
+      answer = answers.Service (a .number);
+    })
 
 -- a tick does not go back, and stays below 2^63
 abbrev pub ticked : Seen → ℕ → Outcome
 ticked s t = cond (ltb t (s .tick) || leb (2 ^ 63) t)
-  (refused s)
-  (record {
-    town = record { settings = s .settings; tick = t; readers = s .readers; services = s .services };
-    answer = answers.Tick t;
-  })
+    (refused s)
+    (record {
+      town = record { settings = s .settings; tick = t; readers = s .readers; services = s .services };
+      answer = answers.Tick t;
+    })
 
 -- the first line that says something opens the town
 abbrev pub begun : Seen → Line → Outcome

@@ -24,8 +24,8 @@ before b s = leading (λ x. not (eqb x b)) s
 -- what stands before and after the first b
 unfoldable pub cutAt : ℕ → List ℕ → Option (List ℕ × List ℕ)
 cutAt b s = cond (ltb (before b s) (length s))
-  (Some (take (before b s) s, drop (before b s + 1) s))
-  None
+    (Some (take (before b s) s, drop (before b s + 1) s))
+    None
 
 -- how many digits s begins with
 unfoldable pub digits : List ℕ → ℕ
@@ -38,7 +38,7 @@ numberOf s = cond (eqb (digits s) (length s)) (Some (min (value 10 s) (2 ^ 64 - 
 -- the same, of at least one digit and with no leading zero
 unfoldable pub decimalOf : List ℕ → Option ℕ
 decimalOf s = cond (eqb (length s) 0) None
-  (cond (ltb 1 (length s) && eqb (getD s 0 0) 48) None (numberOf s))
+    (cond (ltb 1 (length s) && eqb (getD s 0 0) 48) None (numberOf s))
 
 -- the one, and then the other of what it gave
 abbrev pub andThen : {A B : Type 0} → Option A → (A → Option B) → Option B
@@ -62,8 +62,8 @@ principalThen s = wordThen principalOf s
 -- the value of a lower-case hex digit
 abbrev pub nibbleOf : ℕ → Option ℕ
 nibbleOf b =
-  cond (leb 48 b && leb b 57) (Some (b - 48))
-  (cond (leb 97 b && leb b 102) (Some (b - 97 + 10)) None)
+    cond (leb 48 b && leb b 57) (Some (b - 48))
+    (cond (leb 97 b && leb b 102) (Some (b - 97 + 10)) None)
 
 -- how many hex digits s begins with
 unfoldable pub hexes : List ℕ → ℕ

@@ -123,7 +123,12 @@ fn read_settings(text: &[u8]) -> Option<Settings>
     let (life, rest) = next_decimal(rest)?;
     let (lag, rest) = next_decimal(rest)?;
     let seed = as_key(rest)?;
-    Some(Settings { tick, life, lag, seed })
+    Some(Settings {
+        tick,
+        life,
+        lag,
+        seed,
+    })
 }
 
 // N KEY

@@ -5,6 +5,7 @@ use crate::lines::Account;
 use crate::lines::Settings;
 
 pub mod acts;
+pub mod shows;
 
 // The room for readers and services is taken at the start, so that no line can fail for want of memory.
 #[derive(Drop)]

@@ -15,16 +15,23 @@ use std::alloc::AllocError;
 use std::alloc::Global;
 
 const MAX_READERS: usize = 16;
+
 const MAX_SERVICES: usize = 8;
+
 const MAX_LIFE: u64 = 86_400;
+
 const MAX_LAG: u64 = 600;
+
 const END_OF_TIME: u64 = 1 << 63;
 
 // Whether settings are in range.
 pub fn in_range(settings: &Settings) -> bool
     ensures { λ r. ⌜ r ≡ inRange (now (settings .entry)) ⌝ }
 {
-    settings.tick < END_OF_TIME && settings.life >= 1 && settings.life <= MAX_LIFE && settings.lag <= MAX_LAG
+    settings.tick < END_OF_TIME
+        && settings.life >= 1
+        && settings.life <= MAX_LIFE
+        && settings.lag <= MAX_LAG
 }
 
 // Whether one of the accounts has that number.
@@ -77,7 +84,11 @@ impl Town {
         ensures answer { λ r. ⌜ r ≡ obeyed (seen (now (self .entry))) line .answer ⌝ }
         ensures after { λ _. ⌜ seen (now (self .exit)) ≡ obeyed (seen (now (self .entry))) line .town ⌝ }
     {
-        if self.is_open() { self.act(line) } else { self.begin(line) }
+        if self.is_open() {
+            self.act(line)
+        } else {
+            self.begin(line)
+        }
     }
 
     // The first line has the settings.
