@@ -1,2 +1,4 @@
+pub mod Exact
+pub mod Order
 pub mod Roll
 pub mod Scan

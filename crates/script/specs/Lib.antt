@@ -1,4 +1,5 @@
 pub mod Grammar
+pub mod Laws
 pub mod Play
 pub mod Shown
 pub mod Text

@@ -1,9 +1,11 @@
 // What a town does at each line of its script.
 ghost use mathlib.Core.Path.{_≡_};
+ghost use Prim.Native.Nat.{_≤_};
 ghost use Rattle.std.specs.Options.{isSome};
 ghost use Rattle.std.specs.Of.Vec.{vec-items};
 ghost use Rattle.std.specs.Vec.{made};
 ghost use Rattle.script.specs.Grammar.{readOf};
+ghost use Rattle.script.specs.Laws.{Orderly};
 ghost use Rattle.script.specs.Play.{seen, nobody, inRange, there, known, opened, withReader, withService, ticked, begun, acted, obeyed, heard};
 use crate::lines::Account;
 use crate::lines::Line;
@@ -25,7 +27,7 @@ const MAX_LAG: u64 = 600;
 const END_OF_TIME: u64 = 1 << 63;
 
 // Whether settings are in range.
-pub fn in_range(settings: &Settings) -> bool
+fn in_range(settings: &Settings) -> bool
     ensures { λ r. ⌜ r ≡ inRange (now (settings .entry)) ⌝ }
 {
     settings.tick < END_OF_TIME
@@ -49,7 +51,7 @@ fn has(accounts: &[Account], number: u16) -> bool
 impl Town {
     // A town that has yet to read its first line.
     pub fn new(heap: Global) -> Result<Town, AllocError>
-        ensures { λ r. ⌜ made r (λ t. seen t ≡ nobody) ⌝ }
+        ensures { λ r. ⌜ made r (λ t. (seen t ≡ nobody) × Orderly (seen t)) ⌝ }
     {
         let readers = Vec::with_capacity(heap, MAX_READERS)?;
         let services = Vec::with_capacity(heap, MAX_SERVICES)?;
@@ -72,6 +74,9 @@ impl Town {
     pub fn hear(&mut self, line: &[u8]) -> Answer
         ensures answer { λ r. ⌜ r ≡ heard (seen (now (self .entry))) (readOf (now (line .entry))) .answer ⌝ }
         ensures after { λ _. ⌜ seen (now (self .exit)) ≡ heard (seen (now (self .entry))) (readOf (now (line .entry))) .town ⌝ }
+        ensures orderly { λ _. ⌜ (Orderly (seen (now (self .entry))) → Orderly (seen (now (self .exit)))) ⌝ }
+        ensures refusal { λ r. ⌜ (r ≡ Answer.Fault → seen (now (self .exit)) ≡ seen (now (self .entry))) ⌝ }
+        ensures time { λ _. ⌜ (Orderly (seen (now (self .entry))) → seen (now (self .entry)) .tick ≤ seen (now (self .exit)) .tick) ⌝ }
     {
         match read(line) {
             Some(said) => self.obey(said),
@@ -80,7 +85,7 @@ impl Town {
     }
 
     // Obeys a line that was read.
-    pub fn obey(&mut self, line: Line) -> Answer
+    fn obey(&mut self, line: Line) -> Answer
         ensures answer { λ r. ⌜ r ≡ obeyed (seen (now (self .entry))) line .answer ⌝ }
         ensures after { λ _. ⌜ seen (now (self .exit)) ≡ obeyed (seen (now (self .entry))) line .town ⌝ }
     {
