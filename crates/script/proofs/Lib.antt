@@ -1,4 +1,2 @@
-pub mod Exact
 pub mod Order
 pub mod Roll
-pub mod Scan

@@ -21,7 +21,7 @@ use Rattle.script.specs.declared.lines.Settings.{Settings}
 use Rattle.script.specs.declared.lines.Verb.{Verb}
 use Rattle.script.specs.declared.lines.Verb.the-variants as verb
 use Rattle.script.specs.declared.town.Answer.the-variants as answers
-use Rattle.script.specs.Text.{andThen, cutAt, decimalOf, principalOf, principalThen, keyOf}
+use Rattle.words.specs.Text.{andThen, cutAt, decimalOf, principalOf, principalThen, keyOf}
 use Rattle.script.specs.Grammar.{accountOf, settingsOf, verbOf, saysOf, sayingOf, silent, readOf}
 use Rattle.script.specs.Play.{Seen, Outcome, nobody, refused, there, known, opened, withReader, withService, ticked, begun, acted, obeyed, heard, inRange}
 use Rattle.script.specs.Laws.{withNumber, holders, Orderly, Stays-orderly, Faults-change-nothing, Time-goes-on, after, Towns-are-orderly}

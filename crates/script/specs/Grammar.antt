@@ -16,7 +16,7 @@ use Rattle.script.specs.declared.lines.Line.the-variants as line
 use Rattle.script.specs.declared.lines.Settings.{Settings}
 use Rattle.script.specs.declared.lines.Verb.{Verb}
 use Rattle.script.specs.declared.lines.Verb.the-variants as verb
-use Rattle.script.specs.Text.{andThen, cutAt, decimalOf, keyOf, decimalThen, principalThen}
+use Rattle.words.specs.Text.{andThen, cutAt, decimalOf, keyOf, decimalThen, principalThen}
 
 -- a line ends at LF, and the last one at the end of the text
 abbrev pub lineOf : List ℕ → List ℕ

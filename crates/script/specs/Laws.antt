@@ -1,4 +1,4 @@
--- What holds of the decimals that are read, and of every town, whatever its script says. Assumes nothing.
+-- What holds of every town, whatever its script says. Assumes nothing.
 --   Orderly s    room is kept, numbers are in range and belong to one each, time has an end
 --   after s ls   the town s after it heard the lines ls
 use mathlib.Core.Path.{_≡_}
@@ -6,22 +6,12 @@ use mathlib.Core.List.{List, [], _∷_, _++_}
 use Prim.Native.Nat.{ℕ, _+_, _-_, _^_, _≤_, _<_}
 use lib.Dec.{eqb}
 use lib.ListN.{length}
-use Rattle.std.specs.Written.{decimal}
 use Rattle.std.specs.shelf.Lists.{countBy}
 use Rattle.std.specs.declared.option.Option.the-variants.{None, Some}
 use Rattle.script.specs.declared.lines.Account.{Account}
 use Rattle.script.specs.declared.town.Answer.the-variants.{Fault}
 use Rattle.script.specs.Grammar.{readOf}
 use Rattle.script.specs.Play.{Seen, nobody, heard}
-use Rattle.script.specs.Text.{decimalOf}
-
--- a number that is written in decimal is read back
-abbrev pub Decimals-read-back : Type 0
-Decimals-read-back = (n : ℕ) → n < 2 ^ 64 → decimalOf (decimal n) ≡ Some n
-
--- and nothing else is read as that number, up to the one that stands for all larger
-abbrev pub Decimals-are-exact : Type 0
-Decimals-are-exact = (s : List ℕ) (n : ℕ) → decimalOf s ≡ Some n → n < 2 ^ 64 - 1 → s ≡ decimal n
 
 -- how many of them have the number n
 abbrev pub withNumber : ℕ → List Account → ℕ

@@ -2,4 +2,3 @@ pub mod Grammar
 pub mod Laws
 pub mod Play
 pub mod Shown
-pub mod Text

@@ -2,4 +2,3 @@
 pub mod laws;
 pub mod lines;
 pub mod town;
-pub mod words;

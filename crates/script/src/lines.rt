@@ -4,13 +4,13 @@ ghost use Prim.Native.Nat.{_<_};
 ghost use lib.ListN.{length};
 ghost use Rattle.std.specs.declared.option.Option.the-variants.{None, Some};
 ghost use Rattle.script.specs.Grammar.{lineOf, restOf, verbOf, settingsOf, accountOf, sayingOf, silent, readOf};
-use crate::words::Key;
-use crate::words::as_key;
-use crate::words::cut;
-use crate::words::decimal;
-use crate::words::next_decimal;
-use crate::words::next_principal;
-use crate::words::same;
+use words::Key;
+use words::as_key;
+use words::cut;
+use words::decimal;
+use words::next_decimal;
+use words::next_principal;
+use words::same;
 
 // A line of more bytes can't be read.
 const MAX_LINE: usize = 1_048_576;

@@ -1,5 +1,5 @@
 use borrow.Author.Needs.{needs}
-use Rattle.script.proofs.Scan.{cut-shorter}
+use Rattle.words.proofs.Scan.{cut-shorter}
 use Rattle.script.proofs.lines.first_line.Needs as need
 
 pub returns-in-Some : need.returns-in-Some
