@@ -24,6 +24,7 @@ use Rattle.script.specs.declared.town.Answer.the-variants as answers
 use Rattle.words.specs.Text.{andThen, cutAt, decimalOf, principalOf, principalThen, keyOf}
 use Rattle.script.specs.Grammar.{accountOf, settingsOf, verbOf, saysOf, sayingOf, silent, readOf}
 use Rattle.script.specs.Play.{Seen, Outcome, nobody, refused, there, known, opened, withReader, withService, ticked, begun, acted, obeyed, heard, inRange}
+use Rattle.script.proofs.Ifs.{If, if-any, if-then}
 use Rattle.script.specs.Laws.{withNumber, holders, Orderly, Stays-orderly, Faults-change-nothing, Time-goes-on, after, Towns-are-orderly}
 
 -- What is read: a number of 1 to 1,023.
@@ -37,18 +38,6 @@ GoodLine (line.Town x) = Unit {0}
 GoodLine (line.Reader a) = Good a
 GoodLine (line.Service a) = Good a
 GoodLine (line.Tick t) = Unit {0}
-
-abbrev If : {A : Type 0} → (A → Type 0) → Option A → Type 0
-If Q None = Unit {0}
-If Q (Some x) = Q x
-
-if-any : {A : Type 0} (o : Option A) → If (λ _. Unit {0}) o
-if-any None = tt
-if-any (Some x) = tt
-
-if-then : {A B : Type 0} (R : A → Type 0) (Q : B → Type 0) (o : Option A) (f : A → Option B) → If R o → ((x : A) → R x → If Q (f x)) → If Q (andThen o f)
-if-then R Q None f h k = tt
-if-then R Q (Some x) f h k = k x h
 
 good-principal : (s : List ℕ) → If (λ n. (1 ≤ n) × (n ≤ 1023)) (principalOf s)
 good-principal s =
