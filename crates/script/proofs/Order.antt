@@ -48,7 +48,7 @@ good-account : (s : List ℕ) → If Good (accountOf s)
 good-account s =
     if-then (λ p. (1 ≤ p .0) × (p .0 ≤ 1023)) Good (principalThen s) _
     (if-then (λ _. Unit {0}) (λ p. (1 ≤ p .0) × (p .0 ≤ 1023)) (cutAt 32 s) _ (if-any (cutAt 32 s))
-      (λ p _. if-then (λ n. (1 ≤ n) × (n ≤ 1023)) (λ q. (1 ≤ q .0) × (q .0 ≤ 1023)) (principalOf (p .0)) _ (good-principal (p .0)) (λ x h. h)))
+    (λ p _. if-then (λ n. (1 ≤ n) × (n ≤ 1023)) (λ q. (1 ≤ q .0) × (q .0 ≤ 1023)) (principalOf (p .0)) _ (good-principal (p .0)) (λ x h. h)))
     (λ n h. if-then (λ _. Unit {0}) Good (keyOf (n .1)) _ (if-any (keyOf (n .1))) (λ k _. h))
 
 good-says : (v : Verb) (s : List ℕ) → If GoodLine (saysOf v s)
@@ -61,8 +61,8 @@ good-line : (s : List ℕ) → If GoodLine (readOf s)
 good-line s =
     cond-both (ltb 1048576 (length s)) None (cond (silent s) (Some line.Blank) (sayingOf s)) (If GoodLine) (λ _. tt)
     (λ _. cond-both (silent s) (Some line.Blank) (sayingOf s) (If GoodLine) (λ _. tt)
-      (λ _. if-then (λ _. Unit {0}) GoodLine (cutAt 32 s) _ (if-any (cutAt 32 s))
-        (λ p _. if-then (λ _. Unit {0}) GoodLine (verbOf (p .0)) _ (if-any (verbOf (p .0))) (λ v _. good-says v (p .1)))))
+    (λ _. if-then (λ _. Unit {0}) GoodLine (cutAt 32 s) _ (if-any (cutAt 32 s))
+    (λ p _. if-then (λ _. Unit {0}) GoodLine (verbOf (p .0)) _ (if-any (verbOf (p .0))) (λ v _. good-says v (p .1)))))
 
 -- Who is there: one more belongs to a number that nobody has.
 
@@ -90,47 +90,47 @@ Fine n count = (count ≤ 1) × (0 < count → (1 ≤ n) × (n ≤ 1023))
 one-more : (s : Seen) (a : Account) → Orderly s → Good a → known s (a .number) ≡ false → (n : ℕ) → Fine n (holders n s + mark (eqb (a .number) n))
 one-more s a h good new n = ⊎-elim
     (λ (e : eqb (a .number) n ≡ true).
-        let same : a .number ≡ n = eqb-true (a .number) n e in
-        let none : holders n s ≡ 0 = ap (λ k. holders k s) (sym same) ∙ unknown s (a .number) new in
-        let one : mark (eqb (a .number) n) ≡ 1 = ap mark e in
-        (omega arith, λ _. subst (λ k. (1 ≤ k) × (k ≤ 1023)) same good))
+    let same : a .number ≡ n = eqb-true (a .number) n e in
+    let none : holders n s ≡ 0 = ap (λ k. holders k s) (sym same) ∙ unknown s (a .number) new in
+    let one : mark (eqb (a .number) n) ≡ 1 = ap mark e in
+    (omega arith, λ _. subst (λ k. (1 ≤ k) × (k ≤ 1023)) same good))
     (λ (e : eqb (a .number) n ≡ false).
-        let zero : mark (eqb (a .number) n) ≡ 0 = ap mark e in
-        let was = h .one-each n in
-        (omega arith, λ some. h .in-range n (omega arith)))
+    let zero : mark (eqb (a .number) n) ≡ 0 = ap mark e in
+    let was = h .one-each n in
+    (omega arith, λ some. h .in-range n (omega arith)))
     (cases-bool (eqb (a .number) n))
 
 orderly-reader : (s : Seen) (a : Account) → Orderly s → Good a → Orderly (withReader s a .town)
 orderly-reader s a h good =
     cond-both (leb 16 (length (s .readers)) || known s (a .number)) _ _ (λ (o : Outcome). Orderly (o .town)) (λ _. h)
     (λ e.
-        let parts = or-parts (leb 16 (length (s .readers))) (known s (a .number)) e in
-        let fine : (n : ℕ) → Fine n (withNumber n (s .readers ++ a ∷ []) + withNumber n (s .services)) =
-          λ n. subst (Fine n) (omega (arith, count-push n (s .readers) a)) (one-more s a h good (parts .1) n) in
-        record {
-          readers-fit = omega (arith, leb-false 16 (length (s .readers)) (parts .0), length-append (s .readers) (a ∷ []));
-          services-fit = h .services-fit;
-          one-each = λ n. fine n .0;
-          in-range = λ n. fine n .1;
-          in-time = h .in-time;
-          from-zero = h .from-zero;
-        })
+    let parts = or-parts (leb 16 (length (s .readers))) (known s (a .number)) e in
+    let fine : (n : ℕ) → Fine n (withNumber n (s .readers ++ a ∷ []) + withNumber n (s .services)) =
+    λ n. subst (Fine n) (omega (arith, count-push n (s .readers) a)) (one-more s a h good (parts .1) n) in
+    record {
+      readers-fit = omega (arith, leb-false 16 (length (s .readers)) (parts .0), length-append (s .readers) (a ∷ []));
+      services-fit = h .services-fit;
+      one-each = λ n. fine n .0;
+      in-range = λ n. fine n .1;
+      in-time = h .in-time;
+      from-zero = h .from-zero;
+    })
 
 orderly-service : (s : Seen) (a : Account) → Orderly s → Good a → Orderly (withService s a .town)
 orderly-service s a h good =
     cond-both (leb 8 (length (s .services)) || known s (a .number)) _ _ (λ (o : Outcome). Orderly (o .town)) (λ _. h)
     (λ e.
-        let parts = or-parts (leb 8 (length (s .services))) (known s (a .number)) e in
-        let fine : (n : ℕ) → Fine n (withNumber n (s .readers) + withNumber n (s .services ++ a ∷ [])) =
-          λ n. subst (Fine n) (omega (arith, count-push n (s .services) a)) (one-more s a h good (parts .1) n) in
-        record {
-          readers-fit = h .readers-fit;
-          services-fit = omega (arith, leb-false 8 (length (s .services)) (parts .0), length-append (s .services) (a ∷ []));
-          one-each = λ n. fine n .0;
-          in-range = λ n. fine n .1;
-          in-time = h .in-time;
-          from-zero = h .from-zero;
-        })
+    let parts = or-parts (leb 8 (length (s .services))) (known s (a .number)) e in
+    let fine : (n : ℕ) → Fine n (withNumber n (s .readers) + withNumber n (s .services ++ a ∷ [])) =
+    λ n. subst (Fine n) (omega (arith, count-push n (s .services) a)) (one-more s a h good (parts .1) n) in
+    record {
+      readers-fit = h .readers-fit;
+      services-fit = omega (arith, leb-false 8 (length (s .services)) (parts .0), length-append (s .services) (a ∷ []));
+      one-each = λ n. fine n .0;
+      in-range = λ n. fine n .1;
+      in-time = h .in-time;
+      from-zero = h .from-zero;
+    })
 
 -- Time.
 
@@ -144,28 +144,28 @@ orderly-open : (s : Seen) (x : Settings) → Orderly s → Orderly (opened s x .
 orderly-open s x h =
     cond-both (inRange x) _ _ (λ (o : Outcome). Orderly (o .town))
     (λ e. record {
-        readers-fit = h .readers-fit;
-        services-fit = h .services-fit;
-        one-each = h .one-each;
-        in-range = h .in-range;
-        in-time = grind (arith, tells);
-        from-zero = λ n. absurd (never-none n);
-      })
+      readers-fit = h .readers-fit;
+      services-fit = h .services-fit;
+      one-each = h .one-each;
+      in-range = h .in-range;
+      in-time = grind (arith, tells);
+      from-zero = λ n. absurd (never-none n);
+    })
     (λ _. h)
 
 orderly-tick : (s : Seen) (t : ℕ) → (s .settings ≡ None → ⊥) → Orderly s → Orderly (ticked s t .town)
 orderly-tick s t on h =
     cond-both (ltb t (s .tick) || leb (2 ^ 63) t) _ _ (λ (o : Outcome). Orderly (o .town)) (λ _. h)
-    (λ e. 
-      let parts = or-parts (ltb t (s .tick)) (leb (2 ^ 63) t) e in
-      record {
-        readers-fit = h .readers-fit;
-        services-fit = h .services-fit;
-        one-each = h .one-each;
-        in-range = h .in-range;
-        in-time = leb-false (2 ^ 63) t (parts .1);
-        from-zero = λ n. absurd (on n);
-      })
+    (λ e.
+    let parts = or-parts (ltb t (s .tick)) (leb (2 ^ 63) t) e in
+    record {
+      readers-fit = h .readers-fit;
+      services-fit = h .services-fit;
+      one-each = h .one-each;
+      in-range = h .in-range;
+      in-time = leb-false (2 ^ 63) t (parts .1);
+      from-zero = λ n. absurd (on n);
+    })
 
 later-tick : (s : Seen) (t : ℕ) → Later s (ticked s t)
 later-tick s t =

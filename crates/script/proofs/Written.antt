@@ -38,7 +38,7 @@ principal-text : (w : List ℕ) → If (λ n. w ≡ decimal n) (principalOf w)
 principal-text w =
     if-then (λ n. n < 2 ^ 64 - 1 → w ≡ decimal n) (λ n. w ≡ decimal n) (decimalOf w) _ (decimal-text w)
     (λ n is. cond-both (eqb n 0) None (cond (ltb 1023 n) None (Some n)) (If (λ n. w ≡ decimal n)) (λ _. tt)
-      (λ _. cond-both (ltb 1023 n) None (Some n) (If (λ n. w ≡ decimal n)) (λ _. tt) (λ h. is (omega (arith, ltb-false 1023 n h)))))
+    (λ _. cond-both (ltb 1023 n) None (Some n) (If (λ n. w ≡ decimal n)) (λ _. tt) (λ h. is (omega (arith, ltb-false 1023 n h)))))
 
 key-text : (w : List ℕ) → If (λ k. w ≡ hexText (k .bytes)) (keyOf w)
 key-text w = if-each (λ k. w ≡ hexText (k .bytes)) (keyOf w) (λ k e. keys-exact w k e)
@@ -50,13 +50,13 @@ decimalThen-text : (s : List ℕ) → If (Led s) (decimalThen s)
 decimalThen-text s =
     if-then (λ p. s ≡ p .0 ++ (32 ∷ p .1)) (Led s) (cutAt 32 s) _ (cut-text s)
     (λ p joins. if-then (λ n. n < 2 ^ 64 - 1 → p .0 ≡ decimal n) (Led s) (decimalOf (p .0)) _ (decimal-text (p .0))
-      (λ n is small. joins ∙ ap (λ (w : List ℕ). w ++ (32 ∷ p .1)) (is small)))
+    (λ n is small. joins ∙ ap (λ (w : List ℕ). w ++ (32 ∷ p .1)) (is small)))
 
 principalThen-text : (s : List ℕ) → If (λ p. s ≡ decimal (p .0) ++ (32 ∷ p .1)) (principalThen s)
 principalThen-text s =
     if-then (λ p. s ≡ p .0 ++ (32 ∷ p .1)) (λ q. s ≡ decimal (q .0) ++ (32 ∷ q .1)) (cutAt 32 s) _ (cut-text s)
     (λ p joins. if-then (λ n. p .0 ≡ decimal n) (λ q. s ≡ decimal (q .0) ++ (32 ∷ q .1)) (principalOf (p .0)) _ (principal-text (p .0))
-      (λ n is. joins ∙ ap (λ (w : List ℕ). w ++ (32 ∷ p .1)) is))
+    (λ n is. joins ∙ ap (λ (w : List ℕ). w ++ (32 ∷ p .1)) is))
 
 abbrev Small : Settings → Type 0
 Small x = (x .tick < 2 ^ 64 - 1) × (x .life < 2 ^ 64 - 1) × (x .lag < 2 ^ 64 - 1)
@@ -65,20 +65,20 @@ settings-text : (s : List ℕ) → If (λ x. Small x → s ≡ settingsText x) (
 settings-text s =
     if-then (Led s) (λ x. Small x → s ≡ settingsText x) (decimalThen s) _ (decimalThen-text s)
     (λ a first. if-then (Led (a .1)) (λ x. Small x → s ≡ settingsText x) (decimalThen (a .1)) _ (decimalThen-text (a .1))
-      (λ b second. if-then (Led (b .1)) (λ x. Small x → s ≡ settingsText x) (decimalThen (b .1)) _ (decimalThen-text (b .1))
-        (λ c third. if-then (λ k. c .1 ≡ hexText (k .bytes)) (λ x. Small x → s ≡ settingsText x) (keyOf (c .1)) _ (key-text (c .1))
-          (λ k last small.
-            first (small .0)
-            ∙ ap (λ (w : List ℕ). decimal (a .0) ++ (32 ∷ w))
-              (second (small .1)
-              ∙ ap (λ (w : List ℕ). decimal (b .0) ++ (32 ∷ w))
-                (third (small .2) ∙ ap (λ (w : List ℕ). decimal (c .0) ++ (32 ∷ w)) last))))))
+    (λ b second. if-then (Led (b .1)) (λ x. Small x → s ≡ settingsText x) (decimalThen (b .1)) _ (decimalThen-text (b .1))
+    (λ c third. if-then (λ k. c .1 ≡ hexText (k .bytes)) (λ x. Small x → s ≡ settingsText x) (keyOf (c .1)) _ (key-text (c .1))
+    (λ k last small.
+    first (small .0)
+    ∙ ap (λ (w : List ℕ). decimal (a .0) ++ (32 ∷ w))
+    (second (small .1)
+    ∙ ap (λ (w : List ℕ). decimal (b .0) ++ (32 ∷ w))
+    (third (small .2) ∙ ap (λ (w : List ℕ). decimal (c .0) ++ (32 ∷ w)) last))))))
 
 account-text : (s : List ℕ) → If (λ a. s ≡ accountText a) (accountOf s)
 account-text s =
     if-then (λ p. s ≡ decimal (p .0) ++ (32 ∷ p .1)) (λ a. s ≡ accountText a) (principalThen s) _ (principalThen-text s)
     (λ n first. if-then (λ k. n .1 ≡ hexText (k .bytes)) (λ a. s ≡ accountText a) (keyOf (n .1)) _ (key-text (n .1))
-      (λ k last. first ∙ ap (λ (w : List ℕ). decimal (n .0) ++ (32 ∷ w)) last))
+    (λ k last. first ∙ ap (λ (w : List ℕ). decimal (n .0) ++ (32 ∷ w)) last))
 
 abbrev verbText : Verb → List ℕ
 verbText verb.Town = codes "town"
@@ -90,8 +90,8 @@ verb-text : (w : List ℕ) → If (λ v. w ≡ verbText v) (verbOf w)
 verb-text w =
     cond-both (sameBytes w (codes "town")) _ _ (If (λ v. w ≡ verbText v)) (λ e. sameBytes-decides w (codes "town") .0 e)
     (λ _. cond-both (sameBytes w (codes "reader")) _ _ (If (λ v. w ≡ verbText v)) (λ e. sameBytes-decides w (codes "reader") .0 e)
-      (λ _. cond-both (sameBytes w (codes "service")) _ _ (If (λ v. w ≡ verbText v)) (λ e. sameBytes-decides w (codes "service") .0 e)
-        (λ _. cond-both (sameBytes w (codes "tick")) _ _ (If (λ v. w ≡ verbText v)) (λ e. sameBytes-decides w (codes "tick") .0 e) (λ _. tt))))
+    (λ _. cond-both (sameBytes w (codes "service")) _ _ (If (λ v. w ≡ verbText v)) (λ e. sameBytes-decides w (codes "service") .0 e)
+    (λ _. cond-both (sameBytes w (codes "tick")) _ _ (If (λ v. w ≡ verbText v)) (λ e. sameBytes-decides w (codes "tick") .0 e) (λ _. tt))))
 
 abbrev Exact : (List ℕ → List ℕ) → List ℕ → Line → Type 0
 Exact f s l = Plain l → f s ≡ lineText l
@@ -106,8 +106,8 @@ saying-text : (s : List ℕ) → If (λ l. Plain l → s ≡ lineText l) (saying
 saying-text s =
     if-then (λ p. s ≡ p .0 ++ (32 ∷ p .1)) (λ l. Plain l → s ≡ lineText l) (cutAt 32 s) _ (cut-text s)
     (λ p joins. if-then (λ v. p .0 ≡ verbText v) (λ l. Plain l → s ≡ lineText l) (verbOf (p .0)) _ (verb-text (p .0))
-      (λ v is. if-each (λ l. Plain l → s ≡ lineText l) (saysOf v (p .1))
-        (λ l e plain. joins ∙ ap (λ (w : List ℕ). w ++ (32 ∷ p .1)) is ∙ if-is (Exact (λ r. verbText v ++ (32 ∷ r)) (p .1)) (saysOf v (p .1)) l (says-text v (p .1)) e plain)))
+    (λ v is. if-each (λ l. Plain l → s ≡ lineText l) (saysOf v (p .1))
+    (λ l e plain. joins ∙ ap (λ (w : List ℕ). w ++ (32 ∷ p .1)) is ∙ if-is (Exact (λ r. verbText v ++ (32 ∷ r)) (p .1)) (saysOf v (p .1)) l (says-text v (p .1)) e plain)))
 
 line-text : (s : List ℕ) → If (λ l. Plain l → s ≡ lineText l) (readOf s)
 line-text s =

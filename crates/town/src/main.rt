@@ -12,8 +12,12 @@ use std::io::Write;
 // The script, whole.
 fn script_text(rt: &LibcRuntime) -> Result<Vec<u8>, AnyError> {
     let mut args = env::args(rt)?;
-    let _name = args.next();
-    if let Some(path) = args.next() {
+    let _program = args.next();
+    let path = args.next();
+    if args.next().is_some() {
+        return Err("one script at a time, or none for standard input".into());
+    }
+    if let Some(path) = path {
         return Ok(fs::read(rt, path.as_str())?);
     }
     let mut text = Vec::new(rt.alloc());
@@ -21,7 +25,7 @@ fn script_text(rt: &LibcRuntime) -> Result<Vec<u8>, AnyError> {
     Ok(text)
 }
 
-// Prints a line for each line that says something; a first line that is not good ends the play.
+// Prints a line for each line that says something. A first line that is not good ends the play.
 fn play(rt: &LibcRuntime, text: &[u8]) -> Result<(), AnyError> {
     let mut town = Town::new(rt.alloc())?;
     let mut rest = text;
@@ -35,7 +39,7 @@ fn play(rt: &LibcRuntime, text: &[u8]) -> Result<(), AnyError> {
         println!(rt, "{answer}")?;
         rt.stdout().flush()?;
         if !town.is_open() {
-            return Err("the first line is no settings line in range".into());
+            return Err("the first line has to be: town TICK LIFE LAG SEED".into());
         }
     }
     Ok(())
@@ -47,5 +51,9 @@ fn run(rt: &LibcRuntime) -> Result<(), AnyError> {
 }
 
 fn main(rt: LibcRuntime) -> Result<(), AnyError> {
-    rt.report(run(&rt))
+    let done = run(&rt);
+    if let Err(e) = &done {
+        eprintln!(rt, "town: {e}")?;
+    }
+    done
 }

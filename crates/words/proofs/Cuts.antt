@@ -23,11 +23,11 @@ unfolding before
 at-before b [] h = absurd (omega arith)
 at-before b (x ∷ s) h = ⊎-elim
     (λ (e : eqb x b ≡ true).
-        let here : before b (x ∷ s) ≡ 0 = cond-false (not (eqb x b)) (1 + before b s) 0 (ap not e) in
-        ap (λ k. getD (x ∷ s) k 0) here ∙ eqb-true x b e)
+    let here : before b (x ∷ s) ≡ 0 = cond-false (not (eqb x b)) (1 + before b s) 0 (ap not e) in
+    ap (λ k. getD (x ∷ s) k 0) here ∙ eqb-true x b e)
     (λ (e : eqb x b ≡ false).
-        let on : before b (x ∷ s) ≡ suc (before b s) = cond-true (not (eqb x b)) (1 + before b s) 0 (ap not e) ∙ omega arith in
-        ap (λ k. getD (x ∷ s) k 0) on ∙ at-before b s (omega arith))
+    let on : before b (x ∷ s) ≡ suc (before b s) = cond-true (not (eqb x b)) (1 + before b s) 0 (ap not e) ∙ omega arith in
+    ap (λ k. getD (x ∷ s) k 0) on ∙ at-before b s (omega arith))
     (cases-bool (eqb x b))
 
 -- what was cut, put together
@@ -35,15 +35,15 @@ pub cut-joins : (b : ℕ) (s : List ℕ) (p : List ℕ × List ℕ) → cutAt b 
 unfolding cutAt
 cut-joins b s p e = ⊎-elim
     (λ (h : ltb (before b s) (length s) ≡ true).
-        let q = sym (cond-true _ _ _ h) ∙ e in
-        let inside = ltb-true (before b s) (length s) h in
-        let front : take (before b s) s ≡ p .0 = cc in
-        let back : drop (before b s + 1) s ≡ p .1 = cc in
-        sym (take-append-drop (before b s) s)
-        ∙ (λ i. front i ++ (drop-cons s (before b s) 0 inside ∙ (λ j. at-before b s inside j ∷ (ap (λ k. drop k s) (sym (add-one (before b s))) ∙ back) j)) i))
+    let q = sym (cond-true _ _ _ h) ∙ e in
+    let inside = ltb-true (before b s) (length s) h in
+    let front : take (before b s) s ≡ p .0 = cc in
+    let back : drop (before b s + 1) s ≡ p .1 = cc in
+    sym (take-append-drop (before b s) s)
+    ∙ (λ i. front i ++ (drop-cons s (before b s) 0 inside ∙ (λ j. at-before b s inside j ∷ (ap (λ k. drop k s) (sym (add-one (before b s))) ∙ back) j)) i))
     (λ (h : ltb (before b s) (length s) ≡ false).
-        let q = sym (cond-false _ _ _ h) ∙ e in
-        let z : _≡_ {A = ℕ} 0 1 = cc in absurd (omega arith))
+    let q = sym (cond-false _ _ _ h) ∙ e in
+    let z : _≡_ {A = ℕ} 0 1 = cc in absurd (omega arith))
     (cases-bool (ltb (before b s) (length s)))
 
 -- a text with no b in it, a b, and any text
@@ -52,8 +52,8 @@ unfolding before
 before-joined b [] rest h = cond-false (not (eqb b b)) _ _ (ap not (eq-eqb b b refl))
 before-joined b (x ∷ w) rest h = ⊎-elim
     (λ (e : not (eqb x b) ≡ true).
-        let was = cond-true (not (eqb x b)) (1 + before b w) 0 e in
-        cond-true (not (eqb x b)) (1 + before b (w ++ (b ∷ rest))) 0 e ∙ omega (arith, before-joined b w rest (omega arith)))
+    let was = cond-true (not (eqb x b)) (1 + before b w) 0 e in
+    cond-true (not (eqb x b)) (1 + before b (w ++ (b ∷ rest))) 0 e ∙ omega (arith, before-joined b w rest (omega arith)))
     (λ (e : not (eqb x b) ≡ false). absurd (omega (arith, cond-false (not (eqb x b)) (1 + before b w) 0 e)))
     (cases-bool (not (eqb x b)))
 
@@ -63,8 +63,8 @@ joined-cuts b w rest h =
     let n : ℕ = before b (w ++ (b ∷ rest)) in
     let long : length w ≡ n = sym (before-joined b w rest h) in
     let back : drop (n + 1) (w ++ (b ∷ rest)) ≡ rest =
-      ap (λ (l : List ℕ). drop (n + 1) l) (sym (append-assoc w (b ∷ []) rest))
-      ∙ drop-at (w ++ (b ∷ [])) rest (n + 1) (omega (arith, length-append w (b ∷ []))) in
+    ap (λ (l : List ℕ). drop (n + 1) l) (sym (append-assoc w (b ∷ []) rest))
+    ∙ drop-at (w ++ (b ∷ [])) rest (n + 1) (omega (arith, length-append w (b ∷ []))) in
     cond-true _ _ _ (lt-ltb n (length (w ++ (b ∷ rest))) (omega (arith, length-append w (b ∷ rest))))
     ∙ (λ i. Some (take-at w (b ∷ rest) n long i, back i))
 

@@ -67,22 +67,22 @@ unfolding decimalOf
 numeral s n e = ⊎-elim
     (λ (z : eqb (length s) 0 ≡ true). absurd (not-none (sym (cond-true (eqb (length s) 0) _ _ z) ∙ e)))
     (λ (z : eqb (length s) 0 ≡ false). ⊎-elim
-        (λ (y : (ltb 1 (length s) && eqb (getD s 0 0) 48) ≡ true). absurd (not-none (sym (cond-true _ _ _ y) ∙ sym (cond-false (eqb (length s) 0) _ _ z) ∙ e)))
-        (λ (y : (ltb 1 (length s) && eqb (getD s 0 0) 48) ≡ false). record {
-            some = omega (arith, eqb-false (length s) 0 z);
-            plain = y;
-            number = sym (cond-false _ _ _ y) ∙ sym (cond-false (eqb (length s) 0) _ _ z) ∙ e;
-          })
-        (cases-bool (ltb 1 (length s) && eqb (getD s 0 0) 48)))
+    (λ (y : (ltb 1 (length s) && eqb (getD s 0 0) 48) ≡ true). absurd (not-none (sym (cond-true _ _ _ y) ∙ sym (cond-false (eqb (length s) 0) _ _ z) ∙ e)))
+    (λ (y : (ltb 1 (length s) && eqb (getD s 0 0) 48) ≡ false). record {
+      some = omega (arith, eqb-false (length s) 0 z);
+      plain = y;
+      number = sym (cond-false _ _ _ y) ∙ sym (cond-false (eqb (length s) 0) _ _ z) ∙ e;
+    })
+    (cases-bool (ltb 1 (length s) && eqb (getD s 0 0) 48)))
     (cases-bool (eqb (length s) 0))
 
 -- digits alone, and what they are worth
 worth : (s : List ℕ) (n : ℕ) → numberOf s ≡ Some n → (digits s ≡ length s) × (n ≡ min (value 10 s) (2 ^ 64 - 1))
 unfolding numberOf
 worth s n e = ⊎-elim
-    (λ (y : eqb (digits s) (length s) ≡ true). 
-        let q = sym (cond-true _ _ _ y) ∙ e in
-        (eqb-true (digits s) (length s) y, (cc)))
+    (λ (y : eqb (digits s) (length s) ≡ true).
+    let q = sym (cond-true _ _ _ y) ∙ e in
+    (eqb-true (digits s) (length s) y, (cc)))
     (λ (y : eqb (digits s) (length s) ≡ false). absurd (not-none (sym (cond-false _ _ _ y) ∙ e)))
     (cases-bool (eqb (digits s) (length s)))
 
@@ -93,8 +93,8 @@ exact-decimal s n e h =
     let what = worth s n (num .number) in
     let v : value 10 s ≡ n = omega (arith, what .1) in
     sym (decimal-value own s (digits-all s (what .0)) (num .some)
-      (λ z. ⊎-elim
-        (λ (y : ltb 1 (length s) ≡ false). omega (arith, ltb-false 1 (length s) y, num .some))
-        (λ (y : eqb (getD s 0 0) 48 ≡ false). absurd (eqb-false (getD s 0 0) 48 y z))
-        (and-cases (ltb 1 (length s)) (eqb (getD s 0 0) 48) (num .plain)))
-      (omega arith)) ∙ ap decimal v
+    (λ z. ⊎-elim
+    (λ (y : ltb 1 (length s) ≡ false). omega (arith, ltb-false 1 (length s) y, num .some))
+    (λ (y : eqb (getD s 0 0) 48 ≡ false). absurd (eqb-false (getD s 0 0) 48 y z))
+    (and-cases (ltb 1 (length s)) (eqb (getD s 0 0) 48) (num .plain)))
+    (omega arith)) ∙ ap decimal v

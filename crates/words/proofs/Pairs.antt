@@ -102,19 +102,19 @@ pub keys-back : Keys-read-back
 unfolding allHex
 keys-back k n h =
     cond-true (eqb (length (hexText (k .bytes))) 64 && allHex (hexText (k .bytes))) _ _
-      (and-from _ _ (eq-eqb (length (hexText (k .bytes))) 64 (omega (arith, length-text (k .bytes)))) (eq-eqb _ _ (hexes-text (k .bytes) h)))
+    (and-from _ _ (eq-eqb (length (hexText (k .bytes))) 64 (omega (arith, length-text (k .bytes)))) (eq-eqb _ _ (hexes-text (k .bytes) h)))
     ∙ ap (λ (l : List ℕ). Some (record { bytes = l })) (octets-text (k .bytes) h)
 
 pub keys-exact : Keys-are-exact
 unfolding allHex
 keys-exact s k e = ⊎-elim
     (λ (y : (eqb (length s) 64 && allHex s) ≡ true).
-        let parts = and-parts (eqb (length s) 64) (allHex s) y in
-        let long = eqb-true (length s) 64 (parts .0) in
-        let q = sym (cond-true _ _ _ y) ∙ e in
-        let same : octets s ≡ k .bytes = cc in
-        sym (text-octets s (omega arith) (eqb-true (hexes s) (length s) (parts .1))) ∙ ap hexText same)
-    (λ (y : (eqb (length s) 64 && allHex s) ≡ false). 
-        let q = sym (cond-false _ _ _ y) ∙ e in
-        let z : _≡_ {A = ℕ} 0 1 = cc in absurd (omega arith))
+    let parts = and-parts (eqb (length s) 64) (allHex s) y in
+    let long = eqb-true (length s) 64 (parts .0) in
+    let q = sym (cond-true _ _ _ y) ∙ e in
+    let same : octets s ≡ k .bytes = cc in
+    sym (text-octets s (omega arith) (eqb-true (hexes s) (length s) (parts .1))) ∙ ap hexText same)
+    (λ (y : (eqb (length s) 64 && allHex s) ≡ false).
+    let q = sym (cond-false _ _ _ y) ∙ e in
+    let z : _≡_ {A = ℕ} 0 1 = cc in absurd (omega arith))
     (cases-bool (eqb (length s) 64 && allHex s))
