@@ -2,6 +2,9 @@
 --   before b s     how many bytes of s stand before its first b
 --   cutAt b s      what stands before and after the first b of s
 --   decimalOf s    the number that s writes in decimal
+--   principalOf s  the principal's number that s writes
+--   hexOf s        the bytes that s gives in hex
+--   keyOf s        the key that s gives in hex
 use mathlib.Core.Path.{_≡_}
 use mathlib.Core.Bool.{Bool, true, false, cond, not, _&&_}
 use mathlib.Core.List.{List, [], _∷_, _++_, map}
