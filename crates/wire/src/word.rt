@@ -1,0 +1,175 @@
+// The five words of the line, in bytes: read to the end or the first fault, and written.
+ghost use Rattle.std.specs.Options.{mapped};
+ghost use Rattle.wire.specs.Word.{alone, askingFrom, classFrom, cut, frameFrom, framed, grantFrom, loginFrom, paired, receiptFrom, refusalFrom, shown, shownIn};
+ghost use lib.ListN.{length};
+ghost use mathlib.Core.Path.{_≡_};
+use crate::field::u16_at;
+use parts::Class;
+use parts::Fault;
+
+// The first byte of each word.
+const LOGIN: u8 = 1;
+const TICKET_AND_LETTER: u8 = 2;
+const ASKING: u8 = 3;
+const RECEIPT: u8 = 4;
+const REFUSAL: u8 = 5;
+
+// The fewest bytes of a lock: 16 drawn bytes, and a sum of 16.
+const LOCK_LEAST: usize = 32;
+
+// A word, its locks being parts of the bytes that it was read from.
+#[derive(Clone, Copy)]
+pub enum Word<'a> {
+    Login {
+        reader: u16,
+        lock: &'a [u8],
+    },
+    TicketAndLetter {
+        ticket: &'a [u8],
+        letter: &'a [u8],
+    },
+    Asking {
+        ticket: &'a [u8],
+        asking: &'a [u8],
+    },
+    Receipt {
+        lock: &'a [u8],
+    },
+    Refusal(Class),
+}
+
+// The lock at the front of some bytes, and what follows it.
+fn cut_lock(bytes: &[u8]) -> Option<(&[u8], &[u8])>
+    ensures { λ r. ⌜ mapped (λ p. (now (p .0), now (p .1))) r ≡ cut (now (bytes .entry)) ⌝ }
+{
+    if bytes.len() < 2 {
+        return None;
+    }
+    let end = 2 + u16_at(bytes, 0) as usize;
+    if end < 2 + LOCK_LEAST || end > bytes.len() {
+        return None;
+    }
+    Some((&bytes[2..end], &bytes[end..]))
+}
+
+// The lock that some bytes are, to the end.
+fn one_lock(bytes: &[u8]) -> Option<&[u8]>
+    ensures { λ r. ⌜ mapped now r ≡ alone (cut (now (bytes .entry))) ⌝ }
+{
+    let Some((lock, rest)) = cut_lock(bytes) else {
+        return None;
+    };
+    if rest.len() > 0 {
+        return None;
+    }
+    Some(lock)
+}
+
+// The two locks that some bytes are, to the end.
+fn two_locks(bytes: &[u8]) -> Option<(&[u8], &[u8])>
+    ensures { λ r. ⌜ mapped (λ p. (now (p .0), now (p .1))) r ≡ paired (cut (now (bytes .entry))) ⌝ }
+{
+    let Some((first, rest)) = cut_lock(bytes) else {
+        return None;
+    };
+    let Some(second) = one_lock(rest) else {
+        return None;
+    };
+    Some((first, second))
+}
+
+// The class that the byte of a refusal tells.
+fn class_from(byte: u8) -> Option<Class>
+    ensures { λ r. ⌜ r ≡ classFrom byte ⌝ }
+{
+    match byte {
+        1 => Some(Class::NotReadable),
+        2 => Some(Class::NotNow),
+        3 => Some(Class::NotYou),
+        _ => None,
+    }
+}
+
+// A login after its kind.
+fn login_from(body: &[u8]) -> Option<Word<'_>>
+    ensures { λ r. ⌜ mapped shown r ≡ loginFrom (now (body .entry)) ⌝ }
+{
+    if body.len() < 2 {
+        return None;
+    }
+    let reader = u16_at(body, 0);
+    let Some(lock) = one_lock(&body[2..]) else {
+        return None;
+    };
+    Some(Word::Login { reader, lock })
+}
+
+// A refusal after its kind.
+fn refusal_from(body: &[u8]) -> Option<Word<'_>>
+    ensures { λ r. ⌜ mapped shown r ≡ refusalFrom (now (body .entry)) ⌝ }
+{
+    let [byte] = body else {
+        return None;
+    };
+    let Some(class) = class_from(*byte) else {
+        return None;
+    };
+    Some(Word::Refusal(class))
+}
+
+// A ticket and a letter after their kind.
+fn ticket_and_letter_from(body: &[u8]) -> Option<Word<'_>>
+    ensures { λ r. ⌜ mapped shown r ≡ grantFrom (now (body .entry)) ⌝ }
+{
+    let Some((ticket, letter)) = two_locks(body) else {
+        return None;
+    };
+    Some(Word::TicketAndLetter { ticket, letter })
+}
+
+// A ticket and an asking after their kind.
+fn asking_from(body: &[u8]) -> Option<Word<'_>>
+    ensures { λ r. ⌜ mapped shown r ≡ askingFrom (now (body .entry)) ⌝ }
+{
+    let Some((ticket, asking)) = two_locks(body) else {
+        return None;
+    };
+    Some(Word::Asking { ticket, asking })
+}
+
+// A receipt after its kind.
+fn receipt_from(body: &[u8]) -> Option<Word<'_>>
+    ensures { λ r. ⌜ mapped shown r ≡ receiptFrom (now (body .entry)) ⌝ }
+{
+    let Some(lock) = one_lock(body) else {
+        return None;
+    };
+    Some(Word::Receipt { lock })
+}
+
+// A word after its kind.
+fn word_from(kind: u8, body: &[u8]) -> Option<Word<'_>>
+    ensures { λ r. ⌜ mapped shown r ≡ frameFrom kind (now (body .entry)) ⌝ }
+{
+    match kind {
+        LOGIN => login_from(body),
+        TICKET_AND_LETTER => ticket_and_letter_from(body),
+        ASKING => asking_from(body),
+        RECEIPT => receipt_from(body),
+        REFUSAL => refusal_from(body),
+        _ => None,
+    }
+}
+
+// The word that some bytes are, to the last of them.
+pub fn read_word(bytes: &[u8]) -> Result<Word<'_>, Fault>
+    ensures { λ r. ⌜ shownIn r ≡ framed (now (bytes .entry)) ⌝ }
+{
+    let [kind, body @ ..] = bytes else {
+        return Err(Fault::Malformed);
+    };
+    let Some(word) = word_from(*kind, body) else {
+        return Err(Fault::Malformed);
+    };
+    Ok(word)
+}
