@@ -19,6 +19,11 @@ use Rattle.parts.specs.declared.fault.Class.{Class}
 use Rattle.parts.specs.declared.fault.Class.the-variants.{NotReadable, NotNow, NotYou}
 use Rattle.parts.specs.declared.fault.Fault.{Fault}
 use Rattle.parts.specs.declared.fault.Fault.the-variants.{Malformed}
+use Rattle.std.specs.Of.Vec.{vec-items}
+use Rattle.std.specs.declared.alloc.Global.{Global}
+use Rattle.std.specs.declared.vec.Vec.{Vec}
+use Rattle.wire.specs.declared.word.Unwritten.{Unwritten}
+use Rattle.wire.specs.declared.word.Unwritten.the-variants.{LockLength, NoMemory}
 use Rattle.wire.specs.declared.word.Word.{Word}
 use Rattle.wire.specs.declared.word.Word.the-variants.{Login, TicketAndLetter, Asking, Receipt, Refusal}
 use Rattle.wire.specs.Field.{bytesOf, number, part}
@@ -127,3 +132,8 @@ shown (Refusal class) = refusal class
 abbrev pub shownIn : Result Word Fault → Result Frame Fault
 shownIn (Ok word) = Ok (shown word)
 shownIn (Err fault) = Err fault
+
+-- the answer of the writer of words: the bytes, if the locks fit and there is memory
+abbrev pub Written : Frame → Result (Vec ℕ Global) Unwritten → Type 0
+Written frame (Ok out) = (fits frame ≡ true) × (vec-items out ≡ writeWord frame)
+Written frame (Err why) = why ≡ cond (fits frame) NoMemory LockLength

@@ -48,12 +48,19 @@ pub(crate) fn key_at(bytes: &[u8], at: usize) -> Key
     Key(field)
 }
 
+// The two bytes of a number.
+pub(crate) fn u16_bytes(n: u16) -> [u8; 2]
+    ensures { λ r. ⌜ r ≡ bytesOf 2 n ⌝ }
+{
+    n.to_be_bytes()
+}
+
 // Writes the two bytes of a number at a place: what stood before it stays.
 pub(crate) fn put_u16(out: &mut [u8], at: usize, n: u16)
     requires { ⌜ at + 2 ≤ length (now out) ⌝ }
     ensures { λ _. ⌜ take (at + 2) (now (out .exit)) ≡ take at (now (out .entry)) ++ bytesOf 2 n ⌝ }
 {
-    put(out, at, &n.to_be_bytes());
+    put(out, at, &u16_bytes(n));
 }
 
 // Writes the eight bytes of a number at a place.

@@ -15,5 +15,7 @@ pub use inside::write_letter;
 pub use inside::write_login;
 pub use inside::write_receipt;
 pub use inside::write_ticket;
+pub use word::Unwritten;
 pub use word::Word;
 pub use word::read_word;
+pub use word::write_word;

@@ -1,11 +1,19 @@
 // The five words of the line, in bytes: read to the end or the first fault, and written.
+ghost use Prim.Native.Nat.{_<_};
+ghost use Rattle.std.specs.Of.Vec.{vec-items};
 ghost use Rattle.std.specs.Options.{mapped};
-ghost use Rattle.wire.specs.Word.{alone, askingFrom, classFrom, cut, frameFrom, framed, grantFrom, loginFrom, paired, receiptFrom, refusalFrom, shown, shownIn};
+ghost use Rattle.std.specs.Vec.{made};
+ghost use Rattle.wire.specs.Word.{Written, alone, askingFrom, classFrom, cut, fits, frameFrom, framed, grantFrom, lockBytes, lockFits, login, loginFrom, paired, receipt, receiptFrom, refusal, refusalFrom, shown, shownIn, writeWord};
 ghost use lib.ListN.{length};
+ghost use mathlib.Core.Bool.{true};
+ghost use mathlib.Core.List.{_++_, _∷_};
 ghost use mathlib.Core.Path.{_≡_};
 use crate::field::u16_at;
+use crate::field::u16_bytes;
 use parts::Class;
 use parts::Fault;
+use std::alloc::AllocError;
+use std::alloc::Global;
 
 // The first byte of each word.
 const LOGIN: u8 = 1;
@@ -16,6 +24,18 @@ const REFUSAL: u8 = 5;
 
 // The fewest bytes of a lock: 16 drawn bytes, and a sum of 16.
 const LOCK_LEAST: usize = 32;
+
+// The most bytes of a lock: its length is two bytes.
+const LOCK_MOST: usize = 65535;
+
+// Why a word is not written.
+#[derive(Clone, Copy)]
+pub enum Unwritten {
+    // a lock below 32 bytes or above 65,535
+    LockLength,
+    // no memory for the bytes
+    NoMemory,
+}
 
 // A word, its locks being parts of the bytes that it was read from.
 #[derive(Clone, Copy)]
@@ -172,4 +192,106 @@ pub fn read_word(bytes: &[u8]) -> Result<Word<'_>, Fault>
         return Err(Fault::Malformed);
     };
     Ok(word)
+}
+
+// Whether a lock has a length that a word can say.
+fn lock_fits(lock: &[u8]) -> bool
+    ensures { λ r. ⌜ r ≡ lockFits (now (lock .entry)) ⌝ }
+{
+    LOCK_LEAST <= lock.len() && lock.len() <= LOCK_MOST
+}
+
+// Whether the locks of a word have their lengths.
+fn word_fits(word: Word<'_>) -> bool
+    ensures { λ r. ⌜ r ≡ fits (shown (word .entry)) ⌝ }
+{
+    match word {
+        Word::Login { lock, .. } => lock_fits(lock),
+        Word::TicketAndLetter { ticket, letter } => lock_fits(ticket) && lock_fits(letter),
+        Word::Asking { ticket, asking } => lock_fits(ticket) && lock_fits(asking),
+        Word::Receipt { lock } => lock_fits(lock),
+        Word::Refusal(_) => true,
+    }
+}
+
+// Adds a lock, its length before it.
+fn push_lock(out: &mut Vec<u8>, lock: &[u8]) -> Result<(), AllocError>
+    requires { ⌜ length (now lock) < 65536 ⌝ }
+    ensures { λ r. ⌜ made r (λ _. vec-items (now (out .exit)) ≡ vec-items (now (out .entry)) ++ lockBytes (now (lock .entry))) ⌝ }
+{
+    out.extend_from_slice(&u16_bytes(lock.len() as u16))?;
+    out.extend_from_slice(lock)?;
+    Ok(())
+}
+
+// The bytes of a word of two locks.
+fn two_locks_bytes(heap: Global, kind: u8, first: &[u8], second: &[u8]) -> Result<Vec<u8>, AllocError>
+    requires { ⌜ length (now first) < 65536 ⌝ ∗ ⌜ length (now second) < 65536 ⌝ }
+    ensures { λ r. ⌜ made r (λ v. vec-items v ≡ kind ∷ (lockBytes (now (first .entry)) ++ lockBytes (now (second .entry)))) ⌝ }
+{
+    let mut out = Vec::new(heap);
+    out.push(kind)?;
+    push_lock(&mut out, first)?;
+    push_lock(&mut out, second)?;
+    Ok(out)
+}
+
+// The bytes of a login.
+fn login_bytes(heap: Global, reader: u16, lock: &[u8]) -> Result<Vec<u8>, AllocError>
+    requires { ⌜ length (now lock) < 65536 ⌝ }
+    ensures { λ r. ⌜ made r (λ v. vec-items v ≡ writeWord (login reader (now (lock .entry)))) ⌝ }
+{
+    let mut out = Vec::new(heap);
+    out.push(LOGIN)?;
+    out.extend_from_slice(&u16_bytes(reader))?;
+    push_lock(&mut out, lock)?;
+    Ok(out)
+}
+
+// The bytes of a receipt.
+fn receipt_bytes(heap: Global, lock: &[u8]) -> Result<Vec<u8>, AllocError>
+    requires { ⌜ length (now lock) < 65536 ⌝ }
+    ensures { λ r. ⌜ made r (λ v. vec-items v ≡ writeWord (receipt (now (lock .entry)))) ⌝ }
+{
+    let mut out = Vec::new(heap);
+    out.push(RECEIPT)?;
+    push_lock(&mut out, lock)?;
+    Ok(out)
+}
+
+// The bytes of a refusal.
+fn refusal_bytes(heap: Global, class: Class) -> Result<Vec<u8>, AllocError>
+    ensures { λ r. ⌜ made r (λ v. vec-items v ≡ writeWord (refusal class)) ⌝ }
+{
+    let mut out = Vec::new(heap);
+    out.push(REFUSAL)?;
+    out.push(class.number())?;
+    Ok(out)
+}
+
+// The bytes of a word whose locks fit.
+fn word_bytes(heap: Global, word: Word<'_>) -> Result<Vec<u8>, AllocError>
+    requires { ⌜ fits (shown word) ≡ true ⌝ }
+    ensures { λ r. ⌜ made r (λ v. vec-items v ≡ writeWord (shown (word .entry))) ⌝ }
+{
+    match word {
+        Word::Login { reader, lock } => login_bytes(heap, reader, lock),
+        Word::TicketAndLetter { ticket, letter } => two_locks_bytes(heap, TICKET_AND_LETTER, ticket, letter),
+        Word::Asking { ticket, asking } => two_locks_bytes(heap, ASKING, ticket, asking),
+        Word::Receipt { lock } => receipt_bytes(heap, lock),
+        Word::Refusal(class) => refusal_bytes(heap, class),
+    }
+}
+
+// The bytes of a word, if each of its locks has 32 to 65,535 bytes.
+pub fn write_word(heap: Global, word: Word<'_>) -> Result<Vec<u8>, Unwritten>
+    ensures { λ r. ⌜ Written (shown (word .entry)) r ⌝ }
+{
+    if !word_fits(word) {
+        return Err(Unwritten::LockLength);
+    }
+    match word_bytes(heap, word) {
+        Ok(out) => Ok(out),
+        Err(_) => Err(Unwritten::NoMemory),
+    }
 }
