@@ -1,2 +1,4 @@
 mod Framing
+mod Insides
+mod Numbers
 mod Row

@@ -1,3 +1,4 @@
 pub mod Field
 pub mod Inside
+pub mod Law
 pub mod Word
