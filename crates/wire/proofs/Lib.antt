@@ -2,3 +2,4 @@ mod Framing
 mod Insides
 mod Numbers
 mod Row
+mod Words

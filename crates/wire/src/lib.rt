@@ -2,6 +2,7 @@
 
 mod field;
 mod inside;
+mod law;
 mod word;
 
 pub use inside::Asking;
@@ -15,6 +16,13 @@ pub use inside::write_letter;
 pub use inside::write_login;
 pub use inside::write_receipt;
 pub use inside::write_ticket;
+pub use law::asking_codec;
+pub use law::letter_codec;
+pub use law::login_codec;
+pub use law::receipt_codec;
+pub use law::ticket_codec;
+pub use law::word_codec;
+pub use law::word_ends;
 pub use word::Unwritten;
 pub use word::Word;
 pub use word::read_word;
