@@ -1,15 +1,22 @@
 -- Words and their locks as the reader comes upon them.
 use Prim.Native.Nat.{ℕ, _-_, _<_}
+use mathlib.Core.Bool.{Bool, true, false, cond}
 use mathlib.Core.List.{List, [], _∷_}
 use mathlib.Core.Path.{_≡_, refl, sym, ap, _∙_}
 use lib.ListN.{length, take, drop, getD}
 use native.Mathlib.Omega.{arith}
 use Rattle.std.specs.Options.{mapped, okOr}
 use Rattle.std.specs.declared.option.Option.{Option}
+use Rattle.std.specs.declared.option.Option.the-variants.{Some, None}
 use Rattle.parts.specs.declared.fault.Fault.the-variants.{Malformed}
 use Rattle.std.proofs.shelf.Lists.{take-rest}
-use Rattle.wire.specs.Field.{number, part}
+use Rattle.contents.specs.Field.{number, part}
 use Rattle.wire.specs.Word.{Frame, login, alone, cut, loginFrom, frameFrom, framed}
+
+-- what a test gave
+pub cond-some : (b : Bool) (m n : ℕ) → Some m ≡ cond b (Some n) None → m ≡ n
+cond-some true m n e = cc
+cond-some false m n e = let z : _≡_ {A = ℕ} 0 1 = cc in absurd (omega arith)
 
 -- a login, from what the reader finds in all but its first two bytes
 pub loginFrom-rest : (body : List ℕ) (lock : Option (List ℕ))

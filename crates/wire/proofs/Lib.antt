@@ -1,5 +1,1 @@
 mod Framing
-mod Insides
-mod Numbers
-mod Row
-mod Words

@@ -1,4 +1,1 @@
-pub mod Field
-pub mod Inside
-pub mod Law
 pub mod Word

@@ -26,7 +26,7 @@ use Rattle.wire.specs.declared.word.Unwritten.{Unwritten}
 use Rattle.wire.specs.declared.word.Unwritten.the-variants.{LockLength, NoMemory}
 use Rattle.wire.specs.declared.word.Word.{Word}
 use Rattle.wire.specs.declared.word.Word.the-variants.{Login, TicketAndLetter, Asking, Receipt, Refusal}
-use Rattle.wire.specs.Field.{bytesOf, number, part}
+use Rattle.contents.specs.Field.{bytesOf, number, part}
 
 -- a word by its parts
 pub data Frame : Type 0 where
@@ -60,6 +60,10 @@ fits (asking ticket lock) = cond (lockFits ticket) (lockFits lock) false
 fits (receipt lock) = lockFits lock
 fits (refusal class) = true
 
+-- the number in the first two bytes, if there are two
+abbrev pub firstNumber : List ℕ → Option ℕ
+firstNumber bs = cond (leb 2 (length bs)) (Some (number (part 0 2 bs))) None
+
 -- the length that stands before a lock
 abbrev pub lockLength : List ℕ → ℕ
 lockLength bs = number (part 0 2 bs)
@@ -68,8 +72,8 @@ lockLength bs = number (part 0 2 bs)
 abbrev pub cut : List ℕ → Option (List ℕ × List ℕ)
 cut bs =
     cond (cond (leb 32 (lockLength bs)) (leb (2 + lockLength bs) (length bs)) false)
-      (Some (part 2 (lockLength bs) bs, drop (2 + lockLength bs) bs))
-      None
+    (Some (part 2 (lockLength bs) bs, drop (2 + lockLength bs) bs))
+    None
 
 -- the first lock, if nothing follows it
 abbrev pub alone : Option (List ℕ × List ℕ) → Option (List ℕ)
@@ -111,9 +115,9 @@ refusalFrom (class ∷ rest) = cond (eqb (length rest) 0) (mapped refusal (class
 abbrev pub frameFrom : ℕ → List ℕ → Option Frame
 frameFrom kind body =
     cond (eqb kind 1) (loginFrom body)
-      (cond (eqb kind 2) (grantFrom body)
-        (cond (eqb kind 3) (askingFrom body)
-          (cond (eqb kind 4) (receiptFrom body) (cond (eqb kind 5) (refusalFrom body) None))))
+    (cond (eqb kind 2) (grantFrom body)
+    (cond (eqb kind 3) (askingFrom body)
+    (cond (eqb kind 4) (receiptFrom body) (cond (eqb kind 5) (refusalFrom body) None))))
 
 -- the word that some bytes are, to the last of them
 abbrev pub framed : List ℕ → Result Frame Fault

@@ -3,13 +3,11 @@ ghost use Prim.Native.Nat.{_<_};
 ghost use Rattle.std.specs.Of.Vec.{vec-items};
 ghost use Rattle.std.specs.Options.{mapped};
 ghost use Rattle.std.specs.Vec.{made};
-ghost use Rattle.wire.specs.Word.{Written, alone, askingFrom, classFrom, cut, fits, frameFrom, framed, grantFrom, lockBytes, lockFits, login, loginFrom, paired, receipt, receiptFrom, refusal, refusalFrom, shown, shownIn, writeWord};
+ghost use Rattle.wire.specs.Word.{Written, alone, askingFrom, classFrom, cut, firstNumber, fits, frameFrom, framed, grantFrom, lockBytes, lockFits, loginFrom, paired, receiptFrom, refusalFrom, shown, shownIn, writeWord};
 ghost use lib.ListN.{length};
 ghost use mathlib.Core.Bool.{true};
 ghost use mathlib.Core.List.{_++_, _∷_};
 ghost use mathlib.Core.Path.{_≡_};
-use crate::field::u16_at;
-use crate::field::u16_bytes;
 use parts::Class;
 use parts::Fault;
 use std::alloc::AllocError;
@@ -17,9 +15,13 @@ use std::alloc::Global;
 
 // The first byte of each word.
 const LOGIN: u8 = 1;
+
 const TICKET_AND_LETTER: u8 = 2;
+
 const ASKING: u8 = 3;
+
 const RECEIPT: u8 = 4;
+
 const REFUSAL: u8 = 5;
 
 // The fewest bytes of a lock: 16 drawn bytes, and a sum of 16.
@@ -40,32 +42,31 @@ pub enum Unwritten {
 // A word, its locks being parts of the bytes that it was read from.
 #[derive(Clone, Copy)]
 pub enum Word<'a> {
-    Login {
-        reader: u16,
-        lock: &'a [u8],
-    },
-    TicketAndLetter {
-        ticket: &'a [u8],
-        letter: &'a [u8],
-    },
-    Asking {
-        ticket: &'a [u8],
-        asking: &'a [u8],
-    },
-    Receipt {
-        lock: &'a [u8],
-    },
+    Login { reader: u16, lock: &'a [u8] },
+    TicketAndLetter { ticket: &'a [u8], letter: &'a [u8] },
+    Asking { ticket: &'a [u8], asking: &'a [u8] },
+    Receipt { lock: &'a [u8] },
     Refusal(Class),
+}
+
+// The number in the first two bytes, high byte first.
+fn first_u16(bytes: &[u8]) -> Option<u16>
+    ensures { λ r. ⌜ r ≡ firstNumber (now (bytes .entry)) ⌝ }
+{
+    let [high, low, ..] = bytes else {
+        return None;
+    };
+    Some(u16::from_be_bytes([*high, *low]))
 }
 
 // The lock at the front of some bytes, and what follows it.
 fn cut_lock(bytes: &[u8]) -> Option<(&[u8], &[u8])>
     ensures { λ r. ⌜ mapped (λ p. (now (p .0), now (p .1))) r ≡ cut (now (bytes .entry)) ⌝ }
 {
-    if bytes.len() < 2 {
+    let Some(len) = first_u16(bytes) else {
         return None;
-    }
-    let end = 2 + u16_at(bytes, 0) as usize;
+    };
+    let end = 2 + len as usize;
     if end < 2 + LOCK_LEAST || end > bytes.len() {
         return None;
     }
@@ -114,10 +115,9 @@ fn class_from(byte: u8) -> Option<Class>
 fn login_from(body: &[u8]) -> Option<Word<'_>>
     ensures { λ r. ⌜ mapped shown r ≡ loginFrom (now (body .entry)) ⌝ }
 {
-    if body.len() < 2 {
+    let Some(reader) = first_u16(body) else {
         return None;
-    }
-    let reader = u16_at(body, 0);
+    };
     let Some(lock) = one_lock(&body[2..]) else {
         return None;
     };
@@ -219,53 +219,33 @@ fn push_lock(out: &mut Vec<u8>, lock: &[u8]) -> Result<(), AllocError>
     requires { ⌜ length (now lock) < 65536 ⌝ }
     ensures { λ r. ⌜ made r (λ _. vec-items (now (out .exit)) ≡ vec-items (now (out .entry)) ++ lockBytes (now (lock .entry))) ⌝ }
 {
-    out.extend_from_slice(&u16_bytes(lock.len() as u16))?;
+    out.extend_from_slice(&(lock.len() as u16).to_be_bytes())?;
     out.extend_from_slice(lock)?;
     Ok(())
 }
 
+// The bytes of a word of one lock, after those that it says in the open.
+fn one_lock_bytes(heap: Global, front: &[u8], lock: &[u8]) -> Result<Vec<u8>, AllocError>
+    requires { ⌜ length (now lock) < 65536 ⌝ }
+    ensures { λ r. ⌜ made r (λ v. vec-items v ≡ now (front .entry) ++ lockBytes (now (lock .entry))) ⌝ }
+{
+    let mut out = Vec::from_slice(heap, front)?;
+    push_lock(&mut out, lock)?;
+    Ok(out)
+}
+
 // The bytes of a word of two locks.
-fn two_locks_bytes(heap: Global, kind: u8, first: &[u8], second: &[u8]) -> Result<Vec<u8>, AllocError>
+fn two_locks_bytes(
+    heap: Global,
+    kind: u8,
+    first: &[u8],
+    second: &[u8],
+) -> Result<Vec<u8>, AllocError>
     requires { ⌜ length (now first) < 65536 ⌝ ∗ ⌜ length (now second) < 65536 ⌝ }
     ensures { λ r. ⌜ made r (λ v. vec-items v ≡ kind ∷ (lockBytes (now (first .entry)) ++ lockBytes (now (second .entry)))) ⌝ }
 {
-    let mut out = Vec::new(heap);
-    out.push(kind)?;
-    push_lock(&mut out, first)?;
+    let mut out = one_lock_bytes(heap, &[kind], first)?;
     push_lock(&mut out, second)?;
-    Ok(out)
-}
-
-// The bytes of a login.
-fn login_bytes(heap: Global, reader: u16, lock: &[u8]) -> Result<Vec<u8>, AllocError>
-    requires { ⌜ length (now lock) < 65536 ⌝ }
-    ensures { λ r. ⌜ made r (λ v. vec-items v ≡ writeWord (login reader (now (lock .entry)))) ⌝ }
-{
-    let mut out = Vec::new(heap);
-    out.push(LOGIN)?;
-    out.extend_from_slice(&u16_bytes(reader))?;
-    push_lock(&mut out, lock)?;
-    Ok(out)
-}
-
-// The bytes of a receipt.
-fn receipt_bytes(heap: Global, lock: &[u8]) -> Result<Vec<u8>, AllocError>
-    requires { ⌜ length (now lock) < 65536 ⌝ }
-    ensures { λ r. ⌜ made r (λ v. vec-items v ≡ writeWord (receipt (now (lock .entry)))) ⌝ }
-{
-    let mut out = Vec::new(heap);
-    out.push(RECEIPT)?;
-    push_lock(&mut out, lock)?;
-    Ok(out)
-}
-
-// The bytes of a refusal.
-fn refusal_bytes(heap: Global, class: Class) -> Result<Vec<u8>, AllocError>
-    ensures { λ r. ⌜ made r (λ v. vec-items v ≡ writeWord (refusal class)) ⌝ }
-{
-    let mut out = Vec::new(heap);
-    out.push(REFUSAL)?;
-    out.push(class.number())?;
     Ok(out)
 }
 
@@ -275,11 +255,19 @@ fn word_bytes(heap: Global, word: Word<'_>) -> Result<Vec<u8>, AllocError>
     ensures { λ r. ⌜ made r (λ v. vec-items v ≡ writeWord (shown (word .entry))) ⌝ }
 {
     match word {
-        Word::Login { reader, lock } => login_bytes(heap, reader, lock),
-        Word::TicketAndLetter { ticket, letter } => two_locks_bytes(heap, TICKET_AND_LETTER, ticket, letter),
+        Word::Login { reader, lock } => {
+            let [high, low] = reader.to_be_bytes();
+            one_lock_bytes(heap, &[LOGIN, high, low], lock)
+        }
+        Word::TicketAndLetter { ticket, letter } => two_locks_bytes(
+            heap,
+            TICKET_AND_LETTER,
+            ticket,
+            letter,
+        ),
         Word::Asking { ticket, asking } => two_locks_bytes(heap, ASKING, ticket, asking),
-        Word::Receipt { lock } => receipt_bytes(heap, lock),
-        Word::Refusal(class) => refusal_bytes(heap, class),
+        Word::Receipt { lock } => one_lock_bytes(heap, &[RECEIPT], lock),
+        Word::Refusal(class) => Vec::from_slice(heap, &[REFUSAL, class.number()]),
     }
 }
 
