@@ -2,6 +2,7 @@
 ghost use Prim.Native.Nat.{_+_, _≤_};
 ghost use Rattle.contents.specs.Field.{bytesOf, number, part};
 ghost use Rattle.contents.specs.Inside.{keyOf, numberOf};
+ghost use Rattle.std.specs.shelf.Lists.{joined};
 ghost use lib.ListN.{length, take};
 ghost use mathlib.Core.List.{_++_};
 ghost use mathlib.Core.Path.{_≡_};
@@ -55,42 +56,39 @@ pub(crate) fn u16_bytes(n: u16) -> [u8; 2]
     n.to_be_bytes()
 }
 
-// Writes the two bytes of a number at a place: what stood before it stays.
-pub(crate) fn put_u16(out: &mut [u8], at: usize, n: u16)
-    requires { ⌜ at + 2 ≤ length (now out) ⌝ }
-    ensures { λ _. ⌜ take (at + 2) (now (out .exit)) ≡ take at (now (out .entry)) ++ bytesOf 2 n ⌝ }
+// The eight bytes of a number.
+pub(crate) fn u64_bytes(n: u64) -> [u8; 8]
+    ensures { λ r. ⌜ r ≡ bytesOf 8 n ⌝ }
 {
-    put(out, at, &u16_bytes(n));
+    n.to_be_bytes()
 }
 
-// Writes the eight bytes of a number at a place.
-pub(crate) fn put_u64(out: &mut [u8], at: usize, n: u64)
-    requires { ⌜ at + 8 ≤ length (now out) ⌝ }
-    ensures { λ _. ⌜ take (at + 8) (now (out .exit)) ≡ take at (now (out .entry)) ++ bytesOf 8 n ⌝ }
-{
-    put(out, at, &n.to_be_bytes());
-}
-
-// Writes a nonce at a place.
-pub(crate) fn put_nonce(out: &mut [u8], at: usize, number: Number)
-    requires { ⌜ at + 16 ≤ length (now out) ⌝ }
-    ensures { λ _. ⌜ take (at + 16) (now (out .exit)) ≡ take at (now (out .entry)) ++ number .0 ⌝ }
-{
-    put(out, at, &number.0);
-}
-
-// Writes a key at a place.
-pub(crate) fn put_key(out: &mut [u8], at: usize, key: Key)
-    requires { ⌜ at + 32 ≤ length (now out) ⌝ }
-    ensures { λ _. ⌜ take (at + 32) (now (out .exit)) ≡ take at (now (out .entry)) ++ key .0 ⌝ }
-{
-    put(out, at, &key.0);
-}
-
-// Writes a field at a place.
-pub(crate) fn put(out: &mut [u8], at: usize, field: &[u8])
+// Writes a field at a place: what stood before it stays.
+fn put(out: &mut [u8], at: usize, field: &[u8])
     requires { ⌜ at + length (now field) ≤ length (now out) ⌝ }
     ensures { λ _. ⌜ take (at + length (now (field .entry))) (now (out .exit)) ≡ take at (now (out .entry)) ++ now (field .entry) ⌝ }
 {
     out[at..at + field.len()].copy_from_slice(field);
+}
+
+// Fills a memory with fields, one after the other.
+pub(crate) fn fill(out: &mut [u8], fields: &[&[u8]])
+    requires { ⌜ length (now out) ≡ length (joined now (now fields)) ⌝ }
+    ensures { λ _. ⌜ now (out .exit) ≡ joined now (now (fields .entry)) ⌝ }
+{
+    let mut at = 0;
+    for field in fields {
+        put(out, at, field);
+        at += field.len();
+    }
+}
+
+// Fills a memory with some bytes between those before them and those after them.
+pub(crate) fn fill_around(out: &mut [u8], front: &[u8], what: &[u8], back: &[u8])
+    requires { ⌜ length (now out) ≡ length (now front) + length (now what) + length (now back) ⌝ }
+    ensures { λ _. ⌜ now (out .exit) ≡ now (front .entry) ++ (now (what .entry) ++ now (back .entry)) ⌝ }
+{
+    put(out, 0, front);
+    put(out, front.len(), what);
+    put(out, front.len() + what.len(), back);
 }

@@ -3,15 +3,14 @@ ghost use Prim.Native.Nat.{_+_, _≤_};
 ghost use Rattle.contents.specs.Inside.{asked, askedIn, askingLeft, askingRoom, isInside, readAsking, readLetter, readLogin, readReceipt, readTicket, writeAsking, writeLetter, writeLogin, writeReceipt, writeTicket};
 ghost use lib.ListN.{length};
 ghost use mathlib.Core.Path.{_≡_};
+use crate::field::fill;
+use crate::field::fill_around;
 use crate::field::key_at;
 use crate::field::nonce_at;
-use crate::field::put;
-use crate::field::put_key;
-use crate::field::put_nonce;
-use crate::field::put_u16;
-use crate::field::put_u64;
 use crate::field::u16_at;
+use crate::field::u16_bytes;
 use crate::field::u64_at;
+use crate::field::u64_bytes;
 use parts::Fault;
 use parts::Letter;
 use parts::Login;
@@ -83,11 +82,16 @@ pub fn write_ticket(ticket: Ticket) -> [u8; 45]
     ensures { λ r. ⌜ r ≡ writeTicket ticket ⌝ }
 {
     let mut out = [0; 45];
-    out[0] = TICKET;
-    put_u16(&mut out, 1, ticket.service);
-    put_u16(&mut out, 3, ticket.reader);
-    put_key(&mut out, 5, ticket.key);
-    put_u64(&mut out, 37, ticket.until);
+    fill(
+        &mut out,
+        &[
+            &[TICKET],
+            &u16_bytes(ticket.service),
+            &u16_bytes(ticket.reader),
+            &ticket.key.0,
+            &u64_bytes(ticket.until),
+        ],
+    );
     out
 }
 
@@ -111,11 +115,16 @@ pub fn write_letter(letter: Letter) -> [u8; 59]
     ensures { λ r. ⌜ r ≡ writeLetter letter ⌝ }
 {
     let mut out = [0; 59];
-    out[0] = LETTER;
-    put_nonce(&mut out, 1, letter.number);
-    put_u16(&mut out, 17, letter.service);
-    put_key(&mut out, 19, letter.key);
-    put_u64(&mut out, 51, letter.until);
+    fill(
+        &mut out,
+        &[
+            &[LETTER],
+            &letter.number.0,
+            &u16_bytes(letter.service),
+            &letter.key.0,
+            &u64_bytes(letter.until),
+        ],
+    );
     out
 }
 
@@ -137,9 +146,10 @@ pub fn write_login(login: Login) -> [u8; 25]
     ensures { λ r. ⌜ r ≡ writeLogin login ⌝ }
 {
     let mut out = [0; 25];
-    out[0] = LOGIN;
-    put_nonce(&mut out, 1, login.number);
-    put_u64(&mut out, 17, login.tick);
+    fill(
+        &mut out,
+        &[&[LOGIN], &login.number.0, &u64_bytes(login.tick)],
+    );
     out
 }
 
@@ -160,8 +170,7 @@ pub fn write_receipt(receipt: Receipt) -> [u8; 17]
     ensures { λ r. ⌜ r ≡ writeReceipt receipt ⌝ }
 {
     let mut out = [0; 17];
-    out[0] = RECEIPT;
-    put_nonce(&mut out, 1, receipt.number);
+    fill(&mut out, &[&[RECEIPT], &receipt.number.0]);
     out
 }
 
@@ -189,13 +198,17 @@ fn fill_asking(asking: Asking<'_>, out: &mut [u8])
     requires { ⌜ length (now out) ≡ 29 + length (now (asking .what)) ⌝ ∗ ⌜ length (now (asking .what)) ≤ 1024 ⌝ }
     ensures { λ _. ⌜ now (out .exit) ≡ writeAsking (asked (asking .entry)) ⌝ }
 {
-    let len = asking.what.len();
-    out[0] = ASKING;
-    put_u16(out, 1, asking.service);
-    put_nonce(out, 3, asking.number);
-    put_u16(out, 19, len as u16);
-    put(out, 21, asking.what);
-    put_u64(out, 21 + len, asking.tick);
+    let mut front = [0; 21];
+    fill(
+        &mut front,
+        &[
+            &[ASKING],
+            &u16_bytes(asking.service),
+            &asking.number.0,
+            &u16_bytes(asking.what.len() as u16),
+        ],
+    );
+    fill_around(out, &front, asking.what, &u64_bytes(asking.tick));
 }
 
 // Writes the inside of an asking to the front of a memory, and says how long it is.
