@@ -3,7 +3,7 @@ use Prim.Native.Nat.{ℕ, zero, suc, _+_, _*_, _/_, _%_, _^_, _<_, _≤_}
 use mathlib.Core.List.{List, [], _∷_, _++_}
 use mathlib.Core.Path.{_≡_, refl, sym, ap, _∙_}
 use lib.Arith.{digits-div, digits-lt, mod-mul}
-use lib.ListN.{length, take, drop}
+use lib.ListN.{length, take, drop, getD}
 use native.Mathlib.Nat.{mod-one, mod-eq-of-lt, mul-add-div-right, mul-add-mod-self-right, mul-assoc, one-le-pow, pow-succ'}
 use native.Mathlib.Omega.{arith}
 use Rattle.std.proofs.shelf.Lists.{append-nil, drop-drop, length-drop, length-take-le, take-append-drop, take-all}
@@ -54,6 +54,11 @@ bytesOf-number (b ∷ bs) h =
     = ap (λ q. q % 256) (digits-div b lt) ∙ mod-eq-of-lt (h .0) in
     ap (λ x. x ∷ bytesOf (length bs) (b * 256 ^ length bs + number bs)) d
     ∙ ap (λ t. b ∷ t) (bytesOf-add (length bs) b (number bs) ∙ bytesOf-number bs (h .1))
+
+-- what a slice of bytes holds
+pub bytes-from : (bs : List ℕ) → ((i : ℕ) → getD bs i 0 < 256) → Bytes bs
+bytes-from [] h = tt
+bytes-from (b ∷ bs) h = (h 0, bytes-from bs (λ i. h (suc i)))
 
 pub bytes-drop : (n : ℕ) (bs : List ℕ) → Bytes bs → Bytes (drop n bs)
 bytes-drop zero bs h = h
