@@ -1,0 +1,3 @@
+pub mod Insides
+pub mod Numbers
+pub mod Words
