@@ -18,7 +18,7 @@ use mathlib.Core.Path.{_≡_}
 abbrev pub row : Fault → Bool → Condition
 row f b = record { fault = f; fails = b }
 
-abbrev pub firstFault : List Condition → Option Fault
+unfoldable pub firstFault : List Condition → Option Fault
 firstFault [] = None
 firstFault (c ∷ cs) = cond (c .fails) (Some (c .fault)) (firstFault cs)
 

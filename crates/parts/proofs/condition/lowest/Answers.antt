@@ -14,6 +14,7 @@ abbrev none : Condition
 none = record { fault = Malformed; fails = false }
 
 pub returns-then-row : need.returns-then-row
+unfolding firstFault
 returns-then-row c =
     let e = at-drop-more firstFault (c .args .table .now) (c .loop-row .row-index) none (c .loop-row-test .taken) in
     let h = c .if-row .taken in
@@ -22,6 +23,7 @@ returns-then-row c =
     record { first = s; lowest = lowest-first _ _ s }
 
 pub loop-row-again : need.loop-row-again
+unfolding firstFault
 loop-row-again c =
     let e = at-drop-more firstFault (c .args .table .now) (c .loop-row .row-index) none (c .loop-row-test .taken) in
     let h = c .if-row .left in
@@ -29,6 +31,7 @@ loop-row-again c =
     search needs
 
 pub returns : need.returns
+unfolding firstFault
 returns c =
     let e = at-drop-all firstFault (c .args .table .now) (c .loop-row .row-index) in
     let i = c .loop-row .inv in
