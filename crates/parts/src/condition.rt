@@ -1,5 +1,5 @@
 // Conditions as a table of faults and whether they are met, and the lowest that fails.
-ghost use Rattle.parts.specs.Condition.{Lowest, ascends, firstFault};
+ghost use Rattle.parts.specs.Condition.{Lowest, ascends, firstFault, row};
 ghost use mathlib.Core.Bool.{true};
 ghost use mathlib.Core.Path.{_≡_};
 use super::fault::Fault;
@@ -9,6 +9,13 @@ use super::fault::Fault;
 pub struct Condition {
     pub fault: Fault,
     pub fails: bool,
+}
+
+// A row of a table.
+pub fn check(fault: Fault, fails: bool) -> Condition
+    ensures { λ r. ⌜ r ≡ row fault fails ⌝ }
+{
+    Condition { fault, fails }
 }
 
 // The fault of the first row that fails; in a table in the order of the numbers, the lowest.

@@ -11,6 +11,7 @@ mod word;
 pub use account::Account;
 pub use account::Entry;
 pub use condition::Condition;
+pub use condition::check;
 pub use condition::lowest;
 pub use drawn::Drawn;
 pub use fault::Class;

@@ -8,13 +8,13 @@ use super::memory::Memory;
 use super::memory::ROOM;
 use super::side::Side;
 use parts::Asking;
-use parts::Condition;
 use parts::Drawn;
 use parts::Fault;
 use parts::Lock;
 use parts::Receipt;
 use parts::Salt;
 use parts::Ticket;
+use parts::check;
 use parts::is_lately;
 use parts::is_over;
 use parts::lowest;
@@ -38,41 +38,20 @@ impl Side {
     ) -> Option<Fault>
         ensures { λ r. ⌜ r ≡ firstFault (judged (now (self .entry)) (kept (now (memory .entry))) (left (now (drawn .entry))) ticket asking digest) ⌝ }
     {
-        let elsewhere = ticket.service != self.number || asking.service != self.number;
+        let here = ticket.service == self.number && asking.service == self.number;
         lowest(
             &[
-                Condition {
-                    fault: Fault::Unknown,
-                    fails: is_nobody(ticket.reader),
-                },
-                Condition {
-                    fault: Fault::NotLately,
-                    fails: !is_lately(self.now, self.lag, asking.tick),
-                },
-                Condition {
-                    fault: Fault::TicketOver,
-                    fails: is_over(self.now, ticket.until),
-                },
-                Condition {
-                    fault: Fault::DoneBefore,
-                    fails: memory.stands(digest, self.now, self.lag),
-                },
-                Condition {
-                    fault: Fault::NoRoom,
-                    fails: memory.live(self.now, self.lag) >= ROOM,
-                },
-                Condition {
-                    fault: Fault::WrongService,
-                    fails: elsewhere,
-                },
-                Condition {
-                    fault: Fault::NoDrawnBytes,
-                    fails: drawn.count() < 16,
-                },
-                Condition {
-                    fault: Fault::NotNow,
-                    fails: self.now < self.wake,
-                },
+                check(Fault::Unknown, is_nobody(ticket.reader)),
+                check(
+                    Fault::NotLately,
+                    !is_lately(self.now, self.lag, asking.tick),
+                ),
+                check(Fault::TicketOver, is_over(self.now, ticket.until)),
+                check(Fault::DoneBefore, memory.stands(digest, self.now, self.lag)),
+                check(Fault::NoRoom, memory.live(self.now, self.lag) >= ROOM),
+                check(Fault::WrongService, !here),
+                check(Fault::NoDrawnBytes, drawn.count() < 16),
+                check(Fault::NotNow, self.waits()),
             ],
         )
     }

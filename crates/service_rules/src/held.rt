@@ -3,6 +3,11 @@ ghost use Prim.Native.Nat.{_≤_};
 ghost use Rattle.std.specs.Of.Vec.{vec-cap};
 use parts::Entry;
 
+mod entries;
+mod recall;
+
+pub use recall::HeldMemory;
+
 // How a write that a crash cut has ended: the old stands, the new entry stands, or junk.
 #[derive(Clone, Copy)]
 pub enum Cut {

@@ -12,6 +12,7 @@ pub use answer::Deed;
 pub use decide::is_nobody;
 pub use held::Cut;
 pub use held::Held;
+pub use held::HeldMemory;
 pub use memory::Memory;
 pub use memory::ROOM;
 pub use side::Side;
