@@ -12,3 +12,5 @@ pub use line::Held;
 pub use line::Line;
 pub use line::Pass;
 pub use line::Pending;
+pub use line::Sought;
+pub use line::Under;

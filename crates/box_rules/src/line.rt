@@ -37,3 +37,19 @@ pub struct Held<T> {
     pub pass: Pass,
     pub ticket: T,
 }
+
+// The key under which a letter opened: the own key, or one of a ticket.
+#[derive(Clone, Copy)]
+pub enum Under {
+    Own,
+    Session(Key),
+}
+
+// What is looked for among what is under way: a login by its number, an asking for the house by key, number and the
+// service asked for, or an asking to a service by key and number.
+#[derive(Clone, Copy)]
+pub enum Sought {
+    Login(Number),
+    AtHouse(Key, Number, u16),
+    AtService(Key, Number),
+}
