@@ -2,6 +2,7 @@
 
 mod answer;
 mod chest;
+mod keys;
 mod line;
 mod table;
 
