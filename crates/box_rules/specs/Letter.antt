@@ -33,9 +33,12 @@ use mathlib.Core.List.{List, [], _∷_}
 use mathlib.Core.Path.{_≡_}
 
 -- under the own key a login, if the letter is for the house; under a ticket's key an asking for the house
+abbrev pub pendingIn : (logins askings : List Pending) → Under → Letter → Option Pending
+pendingIn xs ys Own l = cond (eqb (l .service) 0) (oldest (Login (l .number)) xs) None
+pendingIn xs ys (Session k) l = oldest (AtHouse k (l .number) (l .service)) ys
+
 abbrev pub pendingFor : {T : Type 0} → Boxed T → Under → Letter → Option Pending
-pendingFor b Own l = cond (eqb (l .service) 0) (oldest (Login (l .number)) (b .logins)) None
-pendingFor b (Session k) l = oldest (AtHouse k (l .number) (l .service)) (b .askings)
+pendingFor b u l = pendingIn (b .logins) (b .askings) u l
 
 abbrev pub letterJudged : (taken : ℕ) → List ℕ → Option Pending → List Condition
 letterJudged n bs o =
@@ -48,27 +51,24 @@ abbrev pub letterConditions : {T : Type 0} → Boxed T → Under → Letter → 
 letterConditions b u l = letterJudged (b .taken) (b .left) (pendingFor b u l)
 
 -- what the letter belongs to leaves its table
+abbrev pub loginsWithout : Under → Letter → List Pending → List Pending
+loginsWithout Own l xs = without (l .number) xs
+loginsWithout (Session k) l xs = xs
+
+abbrev pub askingsWithout : Under → Letter → List Pending → List Pending
+askingsWithout Own l xs = xs
+askingsWithout (Session k) l xs = without (l .number) xs
+
 abbrev pub settled : {T : Type 0} → Boxed T → Under → Letter → Boxed T
-settled b Own l = record {
+settled b u l = record {
   number = b .number;
   key = b .key;
   now = b .now;
   lines = b .lines;
   taken = b .taken;
-  logins = without (l .number) (b .logins);
+  logins = loginsWithout u l (b .logins);
   tickets = b .tickets;
-  askings = b .askings;
-  left = b .left
-}
-settled b (Session k) l = record {
-  number = b .number;
-  key = b .key;
-  now = b .now;
-  lines = b .lines;
-  taken = b .taken;
-  logins = b .logins;
-  tickets = b .tickets;
-  askings = without (l .number) (b .askings);
+  askings = askingsWithout u l (b .askings);
   left = b .left
 }
 

@@ -23,3 +23,10 @@ pub enum Answer {
     Shown(Class),
     Wrong(Fault),
 }
+
+// Why a box does not start: its settings are out of range, or there is no memory.
+#[derive(Clone, Copy)]
+pub enum NotStarted {
+    Wrong(Fault),
+    NoMemory,
+}
