@@ -1,5 +1,6 @@
 -- One more for loops over tickets and over what is under way. Assumes nothing.
 use Prim.Native.Nat.{ℕ, _+_, _-_, _<_, _≤_}
+use Rattle.box_rules.specs.Chest.{ticketOf}
 use Rattle.box_rules.specs.Keys.{fromEnd, holds, isHouse}
 use Rattle.box_rules.specs.Line.{passOf}
 use Rattle.box_rules.specs.declared.line.Held.{Held}
@@ -53,3 +54,11 @@ pub passed-over : {X : Type 0} (f : X → Bool) (k : X → Key) (xs : List X) (i
     items ≡ start ++ fromEnd f k (drop i xs) → items ≡ start ++ fromEnd f k (drop (i - 1) xs)
 passed-over f k xs i x start items h l g e p =
     p ∙ ap (λ (ks : List Key). start ++ ks) (sym (fromEnd-more f k xs i x false h l g e ∙ append-nil (fromEnd f k (drop i xs))))
+
+pub ticketOf-here : {T : Type 0} (i : ℕ) (xs : List (Held T)) (n : ℕ) (x : Held T) → n < length xs → x ≡ getD xs n x → x .pass .id ≡ i → ticketOf i (drop n xs) ≡ Some (x .ticket)
+ticketOf-here i xs n x h g e =
+    at-item (ticketOf i) xs n x h g ∙ ap (λ (b : Bool). cond b (Some (x .ticket)) (ticketOf i (drop (n + 1) xs))) (eq-eqb (x .pass .id) i e)
+
+pub ticketOf-next : {T : Type 0} (i : ℕ) (xs : List (Held T)) (n : ℕ) (x : Held T) → n < length xs → x ≡ getD xs n x → (x .pass .id ≡ i → ⊥) → ticketOf i (drop n xs) ≡ ticketOf i (drop (n + 1) xs)
+ticketOf-next i xs n x h g e =
+    at-item (ticketOf i) xs n x h g ∙ ap (λ (b : Bool). cond b (Some (x .ticket)) (ticketOf i (drop (n + 1) xs))) (ne-eqb (x .pass .id) i e)

@@ -43,7 +43,7 @@ pub out-of-range : {T : Type 0} (b : Boxed T) (v : ℕ) (by : Option ℕ) (w : W
 out-of-range b v by w e = record {
   answer = ap (λ (c : Bool). cond c (Wrong OutOfRange) (unless (firstFault (lineConditions b v by)) (sentBy b (passBy by (b .tickets)) (lineOf b v w)) Wrong)) e;
   after = ap (λ (c : Bool). cond c b (unless (firstFault (lineConditions b v by)) (sentAfter b (passBy by (b .tickets)) (lineOf b v w)) (λ _. b))) e;
-  lowest = λ n. absurd (both-ways (unread (b .lines) v w) n (sym e))
+  lowest = λ n. absurd (both-ways (unread (b .lines) v w) n (sym e));
 }
 
 -- a line in range is answered by its table
@@ -53,13 +53,13 @@ pub by-table : {T : Type 0} (b : Boxed T) (v : ℕ) (by : Option ℕ) (w : What)
 by-table {T} b v by w o f r b′ n k e p q =
     let e′ : f ≡ firstFault (lineConditions b v by) = e ∙ ap (λ (x : Option Pass). firstFault (lineJudged (b .now) (b .left) v by x)) k in
     let a : r ≡ unless (firstFault (lineConditions b v by)) (sentBy b (passBy by (b .tickets)) (lineOf b v w)) Wrong =
-      p ∙ ap (λ (x : Option Pass). unless f (sentBy b x (lineOf b v w)) Wrong) k ∙ ap (λ (x : Option Fault). unless x (sentBy b (passBy by (b .tickets)) (lineOf b v w)) Wrong) e′ in
+    p ∙ ap (λ (x : Option Pass). unless f (sentBy b x (lineOf b v w)) Wrong) k ∙ ap (λ (x : Option Fault). unless x (sentBy b (passBy by (b .tickets)) (lineOf b v w)) Wrong) e′ in
     let d : b′ ≡ unless (firstFault (lineConditions b v by)) (sentAfter b (passBy by (b .tickets)) (lineOf b v w)) (λ _. b) =
-      q ∙ ap (λ (x : Option Pass). unless f (sentAfter b x (lineOf b v w)) (λ _. b)) k ∙ ap (λ (x : Option Fault). unless x (sentAfter b (passBy by (b .tickets)) (lineOf b v w)) (λ _. b)) e′ in
+    q ∙ ap (λ (x : Option Pass). unless f (sentAfter b x (lineOf b v w)) (λ _. b)) k ∙ ap (λ (x : Option Fault). unless x (sentAfter b (passBy by (b .tickets)) (lineOf b v w)) (λ _. b)) e′ in
     record {
       answer = a ∙ ap (λ (c : Bool). cond c (Wrong OutOfRange) (unless (firstFault (lineConditions b v by)) (sentBy b (passBy by (b .tickets)) (lineOf b v w)) Wrong)) n;
       after = d ∙ ap (λ (c : Bool). cond c b (unless (firstFault (lineConditions b v by)) (sentAfter b (passBy by (b .tickets)) (lineOf b v w)) (λ _. b))) n;
-      lowest = λ _. lowest-first (lineConditions b v by) (wrong r) (ap (λ (z : Answer). wrong z) a ∙ told b (passBy by (b .tickets)) (lineOf b v w) (firstFault (lineConditions b v by))) refl
+      lowest = λ _. lowest-first (lineConditions b v by) (wrong r) (ap (λ (z : Answer). wrong z) a ∙ told b (passBy by (b .tickets)) (lineOf b v w) (firstFault (lineConditions b v by))) refl;
     }
 
 pub sends-login : {T : Type 0} (b : Boxed T) (v : ℕ) (by : Option ℕ) (w : What) (o : Option Pass) (s : Lock Login) (b′ : Boxed T) →
@@ -67,13 +67,13 @@ pub sends-login : {T : Type 0} (b : Boxed T) (v : ℕ) (by : Option ℕ) (w : Wh
     s ≡ loginOf b → b′ ≡ loggedIn (counted b) (lineOf b v w) → Wants b v by w (LogsIn s) b′
 sends-login b v by w o s b′ n k e z p q =
     by-table b v by w o None (LogsIn s) b′ n k e
-      (ap (λ (x : Lock Login). LogsIn x) p ∙ ap (λ (x : Option Pass). sentBy b x (lineOf b v w)) (sym z))
-      (q ∙ ap (λ (x : Option Pass). sentAfter b x (lineOf b v w)) (sym z))
+    (ap (λ (x : Lock Login). LogsIn x) p ∙ ap (λ (x : Option Pass). sentBy b x (lineOf b v w)) (sym z))
+    (q ∙ ap (λ (x : Option Pass). sentAfter b x (lineOf b v w)) (sym z))
 
 pub sends-asking : {T : Type 0} (b : Boxed T) (v : ℕ) (by : Option ℕ) (w : What) (o : Option Pass) (x : Pass) (s : Lock Asking) (b′ : Boxed T) →
     false ≡ unread (b .lines) v w → o ≡ passBy by (b .tickets) → None ≡ firstFault (lineJudged (b .now) (b .left) v by o) → o ≡ Some x →
     s ≡ askingOf b (x .key) (x .service) (lineOf b v w) → b′ ≡ asked (counted b) (x .key) (x .service) (lineOf b v w) → Wants b v by w (Asks (x .id) s) b′
 sends-asking b v by w o x s b′ n k e z p q =
     by-table b v by w o None (Asks (x .id) s) b′ n k e
-      (ap (λ (y : Lock Asking). Asks (x .id) y) p ∙ ap (λ (y : Option Pass). sentBy b y (lineOf b v w)) (sym z))
-      (q ∙ ap (λ (y : Option Pass). sentAfter b y (lineOf b v w)) (sym z))
+    (ap (λ (y : Lock Asking). Asks (x .id) y) p ∙ ap (λ (y : Option Pass). sentBy b y (lineOf b v w)) (sym z))
+    (q ∙ ap (λ (y : Option Pass). sentAfter b y (lineOf b v w)) (sym z))

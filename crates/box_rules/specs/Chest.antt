@@ -54,7 +54,7 @@ boxed c bs = record {
   logins = vec-items (c .logins);
   tickets = vec-items (c .tickets);
   askings = vec-items (c .askings);
-  left = bs
+  left = bs;
 }
 
 -- a service's number in two bytes, as an asking for the house has it
@@ -73,7 +73,7 @@ abbrev pub askingOf : {T : Type 0} → Boxed T → Key → ℕ → Line → Lock
 askingOf b k asks l = record {
   key = k;
   salt = saltOf (drop 16 (b .left));
-  inside = record { service = asks; number = numberOf (b .left); what = whatOf asks l; tick = tickOf (b .now) asks l }
+  inside = record { service = asks; number = numberOf (b .left); what = whatOf asks l; tick = tickOf (b .now) asks l };
 }
 
 -- the asking is under way; 32 drawn bytes are used
@@ -87,7 +87,7 @@ asked b k asks l = record {
   logins = b .logins;
   tickets = b .tickets;
   askings = put (record { number = numberOf (b .left); key = k; asks = asks; line = l }) (b .askings);
-  left = drop 32 (b .left)
+  left = drop 32 (b .left);
 }
 
 abbrev pub ticketOf : {T : Type 0} → ℕ → List (Held T) → Option T
@@ -105,7 +105,7 @@ fresh n tick k bs = record {
   logins = [];
   tickets = [];
   askings = [];
-  left = bs
+  left = bs;
 }
 
 -- settings in range: a number from 1 to 1,023 and a tick below 2^63
@@ -133,5 +133,5 @@ boxOnTick b to = record {
   logins = b .logins;
   tickets = b .tickets;
   askings = b .askings;
-  left = b .left
+  left = b .left;
 }

@@ -26,7 +26,7 @@ use Rattle.parts.specs.declared.word.Receipt.{Receipt}
 use Rattle.std.specs.Options.{isSome}
 use Rattle.std.specs.declared.option.Option.{Option}
 use Rattle.std.specs.declared.option.Option.the-variants.{None, Some}
-use lib.Dec.{eqb, ltb}
+use lib.Dec.{eqb, leb, ltb}
 use lib.ListN.{length}
 use mathlib.Core.Bool.{Bool, cond, not}
 use mathlib.Core.List.{List, [], _∷_}
@@ -40,11 +40,12 @@ pendingIn xs ys (Session k) l = oldest (AtHouse k (l .number) (l .service)) ys
 abbrev pub pendingFor : {T : Type 0} → Boxed T → Under → Letter → Option Pending
 pendingFor b u l = pendingIn (b .logins) (b .askings) u l
 
+-- ids are counted, and not used again: where there is none any more, no letter is taken
 abbrev pub letterJudged : (taken : ℕ) → List ℕ → Option Pending → List Condition
 letterJudged n bs o =
     row NotUnderWay (not (isSome o))
     ∷ row NoDrawnBytes (ltb (length bs) 32)
-    ∷ row OutOfRange (eqb n (2 ^ 64 - 1))
+    ∷ row OutOfRange (leb (2 ^ 64 - 1) n)
     ∷ []
 
 abbrev pub letterConditions : {T : Type 0} → Boxed T → Under → Letter → List Condition
@@ -69,7 +70,7 @@ settled b u l = record {
   logins = loginsWithout u l (b .logins);
   tickets = b .tickets;
   askings = askingsWithout u l (b .askings);
-  left = b .left
+  left = b .left;
 }
 
 -- then the ticket is put in, under the next id
@@ -83,7 +84,7 @@ stored b l t = record {
   logins = b .logins;
   tickets = put (record { pass = record { id = b .taken + 1; service = l .service; key = l .key; until = l .until }; ticket = t }) (b .tickets);
   askings = b .askings;
-  left = b .left
+  left = b .left;
 }
 
 -- then whom the ticket is for is asked, for the same line

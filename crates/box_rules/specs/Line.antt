@@ -77,7 +77,7 @@ abbrev pub loginOf : {T : Type 0} → Boxed T → Lock Login
 loginOf b = record {
   key = b .key;
   salt = saltOf (drop 16 (b .left));
-  inside = record { number = numberOf (b .left); tick = b .now }
+  inside = record { number = numberOf (b .left); tick = b .now };
 }
 
 -- one more line without a fault
@@ -91,7 +91,7 @@ counted b = record {
   logins = b .logins;
   tickets = b .tickets;
   askings = b .askings;
-  left = b .left
+  left = b .left;
 }
 
 -- the login is under way; 32 drawn bytes are used
@@ -105,7 +105,7 @@ loggedIn b l = record {
   logins = put (record { number = numberOf (b .left); key = b .key; asks = 0; line = l }) (b .logins);
   tickets = b .tickets;
   askings = b .askings;
-  left = drop 32 (b .left)
+  left = drop 32 (b .left);
 }
 
 -- by no ticket it logs in; by one it asks whom the ticket is for
@@ -120,12 +120,12 @@ sentAfter b (Some p) l = asked (counted b) (p .key) (p .service) l
 abbrev pub wanted : {T : Type 0} → Boxed T → ℕ → Option ℕ → What → Answer
 wanted b v by w =
     cond (unread (b .lines) v w) (Wrong OutOfRange)
-      (unless (firstFault (lineConditions b v by)) (sentBy b (passBy by (b .tickets)) (lineOf b v w)) Wrong)
+    (unless (firstFault (lineConditions b v by)) (sentBy b (passBy by (b .tickets)) (lineOf b v w)) Wrong)
 
 abbrev pub wantedAfter : {T : Type 0} → Boxed T → ℕ → Option ℕ → What → Boxed T
 wantedAfter b v by w =
     cond (unread (b .lines) v w) b
-      (unless (firstFault (lineConditions b v by)) (sentAfter b (passBy by (b .tickets)) (lineOf b v w)) (λ _. b))
+    (unless (firstFault (lineConditions b v by)) (sentAfter b (passBy by (b .tickets)) (lineOf b v w)) (λ _. b))
 
 abbrev pub wrong : Answer → Option Fault
 wrong (LogsIn l) = None

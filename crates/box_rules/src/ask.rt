@@ -58,11 +58,7 @@ fn what_of(asks: u16, line: Line) -> What
 fn tick_of(sent: u64, asks: u16, line: Line) -> u64
     ensures { λ r. ⌜ r ≡ tickOf sent asks line ⌝ }
 {
-    if asks == 0 {
-        sent
-    } else {
-        line.tick
-    }
+    if asks == 0 { sent } else { line.tick }
 }
 
 impl<T: Drop> Chest<T> {
@@ -75,12 +71,33 @@ impl<T: Drop> Chest<T> {
         let (number, salt) = draw(drawn);
         let key = self.key;
         let tick = self.now;
-        put(&mut self.logins, Pending { number, key, asks: 0, line });
-        (self, Lock { key, salt, inside: Login { number, tick } })
+        put(
+            &mut self.logins,
+            Pending {
+                number,
+                key,
+                asks: 0,
+                line,
+            },
+        );
+        (
+            self,
+            Lock {
+                key,
+                salt,
+                inside: Login { number, tick },
+            },
+        )
     }
 
     // Asks the house or a service under a key, for a line.
-    pub(crate) fn ask<D: Drawn>(mut self, drawn: &mut D, key: Key, asks: u16, line: Line) -> (Chest<T>, Lock<Asking>)
+    pub(crate) fn ask<D: Drawn>(
+        mut self,
+        drawn: &mut D,
+        key: Key,
+        asks: u16,
+        line: Line,
+    ) -> (Chest<T>, Lock<Asking>)
         requires { ⌜ 32 ≤ length (left (now drawn)) ⌝ }
         ensures sent { λ r. ⌜ r .1 ≡ askingOf (boxed self (left (now (drawn .entry)))) key asks line ⌝ }
         ensures after { λ r. ⌜ boxed (r .0) (left (now (drawn .exit))) ≡ asked (boxed self (left (now (drawn .entry)))) key asks line ⌝ }
@@ -88,7 +105,27 @@ impl<T: Drop> Chest<T> {
         let (number, salt) = draw(drawn);
         let what = what_of(asks, line);
         let tick = tick_of(self.now, asks, line);
-        put(&mut self.askings, Pending { number, key, asks, line });
-        (self, Lock { key, salt, inside: Asking { service: asks, number, what, tick } })
+        put(
+            &mut self.askings,
+            Pending {
+                number,
+                key,
+                asks,
+                line,
+            },
+        );
+        (
+            self,
+            Lock {
+                key,
+                salt,
+                inside: Asking {
+                    service: asks,
+                    number,
+                    what,
+                    tick,
+                },
+            },
+        )
     }
 }

@@ -59,7 +59,11 @@ fn add_house<T>(keys: &mut Vec<Key>, tickets: &[Held<T>]) -> Result<(), AllocErr
 }
 
 // Adds the keys of askings for the house whose ticket is held no more, the oldest first.
-fn add_stray<T>(keys: &mut Vec<Key>, tickets: &[Held<T>], askings: &[Pending]) -> Result<(), AllocError>
+fn add_stray<T>(
+    keys: &mut Vec<Key>,
+    tickets: &[Held<T>],
+    askings: &[Pending],
+) -> Result<(), AllocError>
     ensures { λ r. ⌜ made r (λ _. vec-items (now (keys .exit)) ≡ vec-items (now (keys .entry)) ++ strayKeys (now (tickets .entry)) (now (askings .entry))) ⌝ }
 {
     let mut i = askings.len();

@@ -36,7 +36,7 @@ fn judge_letter<D: Drawn>(taken: u64, drawn: &D, pending: Option<Pending>) -> Op
         &[
             check(Fault::NotUnderWay, !pending.is_some()),
             check(Fault::NoDrawnBytes, drawn.count() < DRAWN),
-            check(Fault::OutOfRange, taken == u64::MAX),
+            check(Fault::OutOfRange, taken >= u64::MAX),
         ],
     )
 }
@@ -78,14 +78,25 @@ impl<T: Drop> Chest<T> {
         ensures { λ r. ⌜ ((bs : List ℕ) → boxed r bs ≡ stored (boxed self bs) letter ticket) ⌝ }
     {
         self.taken += 1;
-        let pass = Pass { id: self.taken, service: letter.service, key: letter.key, until: letter.until };
+        let pass = Pass {
+            id: self.taken,
+            service: letter.service,
+            key: letter.key,
+            until: letter.until,
+        };
         put(&mut self.tickets, Held { pass, ticket });
         self
     }
 
     // Takes a letter that opened, with the ticket that came with it, and asks whom the ticket is for, for the same line.
     // The login or asking that the letter belongs to is under way no more.
-    pub fn take_letter<D: Drawn>(self, drawn: &mut D, under: Under, letter: Letter, ticket: T) -> (Chest<T>, Answer)
+    pub fn take_letter<D: Drawn>(
+        self,
+        drawn: &mut D,
+        under: Under,
+        letter: Letter,
+        ticket: T,
+    ) -> (Chest<T>, Answer)
         ensures { λ r. ⌜ Takes-letter (boxed self (left (now (drawn .entry)))) under letter ticket (r .1) (boxed (r .0) (left (now (drawn .exit)))) ⌝ }
     {
         let found = self.pending_for(under, letter);
@@ -96,7 +107,11 @@ impl<T: Drop> Chest<T> {
             return (self, Answer::Wrong(Fault::NotUnderWay));
         };
         let chest = self.settle(under, letter).store(letter, ticket);
-        let got = Got { id: chest.taken, service: letter.service, until: letter.until };
+        let got = Got {
+            id: chest.taken,
+            service: letter.service,
+            until: letter.until,
+        };
         let (chest, asking) = chest.ask(drawn, letter.key, letter.service, pending.line);
         (chest, Answer::Takes(got, asking))
     }
@@ -105,7 +120,10 @@ impl<T: Drop> Chest<T> {
     pub fn take_receipt(&self, under: Key, receipt: Receipt) -> Answer
         ensures { λ r. ⌜ r ≡ confirmed (vec-items (now (self .entry) .askings)) under receipt ⌝ }
     {
-        match find(self.askings.as_slice(), Sought::AtService(under, receipt.number)) {
+        match find(
+            self.askings.as_slice(),
+            Sought::AtService(under, receipt.number),
+        ) {
             None => Answer::Wrong(Fault::NotUnderWay),
             Some(pending) => Answer::Receipt(pending.line.place),
         }

@@ -8,6 +8,7 @@ ghost use mathlib.Core.List.{List};
 ghost use mathlib.Core.Path.{_≡_};
 use super::answer::NotStarted;
 use super::chest::Chest;
+use super::line::Held;
 use parts::Fault;
 use parts::Key;
 use parts::Ticked;
@@ -16,6 +17,18 @@ use std::alloc::Global;
 
 // How many a table holds.
 const TABLE: usize = 16;
+
+// The ticket with this id.
+fn ticket_in<T>(tickets: &[Held<T>], id: u64) -> Option<&T>
+    ensures { λ r. ⌜ mapped now r ≡ ticketOf id (now (tickets .entry)) ⌝ }
+{
+    for held in tickets {
+        if held.pass.id == id {
+            return Some(&held.ticket);
+        }
+    }
+    None
+}
 
 impl<T: Drop> Chest<T> {
     // Starts a box that holds nothing.
@@ -34,7 +47,16 @@ impl<T: Drop> Chest<T> {
         let Ok(askings) = Vec::with_capacity(heap, TABLE) else {
             return Err(NotStarted::NoMemory);
         };
-        Ok(Chest { number, key, now: tick, lines: 0, taken: 0, logins, tickets, askings })
+        Ok(Chest {
+            number,
+            key,
+            now: tick,
+            lines: 0,
+            taken: 0,
+            logins,
+            tickets,
+            askings,
+        })
     }
 
     // Tells it the tick.
@@ -53,11 +75,6 @@ impl<T: Drop> Chest<T> {
     pub fn ticket(&self, id: u64) -> Option<&T>
         ensures { λ r. ⌜ mapped now r ≡ ticketOf id (vec-items (now (self .entry) .tickets)) ⌝ }
     {
-        for held in self.tickets.as_slice() {
-            if held.pass.id == id {
-                return Some(&held.ticket);
-            }
-        }
-        None
+        ticket_in(self.tickets.as_slice(), id)
     }
 }

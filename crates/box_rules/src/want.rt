@@ -74,7 +74,13 @@ fn is_misfit(service: u16, pass: Option<Pass>) -> bool
 }
 
 // What is wrong with a line that is in range.
-fn judge_line<D: Drawn>(tick: u64, drawn: &D, service: u16, by: Option<u64>, pass: Option<Pass>) -> Option<Fault>
+fn judge_line<D: Drawn>(
+    tick: u64,
+    drawn: &D,
+    service: u16,
+    by: Option<u64>,
+    pass: Option<Pass>,
+) -> Option<Fault>
     ensures { λ r. ⌜ r ≡ firstFault (lineJudged tick (left (now (drawn .entry))) service by pass) ⌝ }
 {
     let wrong = service == 0 || is_misfit(service, pass);
@@ -90,7 +96,13 @@ fn judge_line<D: Drawn>(tick: u64, drawn: &D, service: u16, by: Option<u64>, pas
 
 impl<T: Drop> Chest<T> {
     // A line for a service, by a ticket or by none. By none the box logs in, whatever tickets it holds.
-    pub fn want<D: Drawn>(mut self, drawn: &mut D, service: u16, by: Option<u64>, what: What) -> (Chest<T>, Answer)
+    pub fn want<D: Drawn>(
+        mut self,
+        drawn: &mut D,
+        service: u16,
+        by: Option<u64>,
+        what: What,
+    ) -> (Chest<T>, Answer)
         ensures { λ r. ⌜ Wants (boxed self (left (now (drawn .entry)))) service by what (r .1) (boxed (r .0) (left (now (drawn .exit)))) ⌝ }
     {
         if is_unread(self.lines, service, &what) {
@@ -101,7 +113,12 @@ impl<T: Drop> Chest<T> {
             return (self, Answer::Wrong(fault));
         }
         self.lines += 1;
-        let line = Line { place: self.lines, service, what, tick: self.now };
+        let line = Line {
+            place: self.lines,
+            service,
+            what,
+            tick: self.now,
+        };
         match pass {
             None => {
                 let (chest, login) = self.log_in(drawn, line);

@@ -13,5 +13,5 @@ returns g c =
     record {
       number = ap (λ (b : List ℕ). record { 0 = b }) (c .take-16 .ensures .value);
       salt = ap (λ (b : List ℕ). record { 0 = b }) (c .take-16-2 .ensures .value ∙ ap (λ (b : List ℕ). take 16 b) e);
-      rest = c .take-16-2 .ensures .rest ∙ ap (λ (b : List ℕ). drop 16 b) e ∙ drop-drop 16 16 (g .D·Drawn .left (c .args .drawn .now))
+      rest = c .take-16-2 .ensures .rest ∙ ap (λ (b : List ℕ). drop 16 b) e ∙ drop-drop 16 16 (g .D·Drawn .left (c .args .drawn .now));
     }

@@ -19,8 +19,8 @@ loop-i-holds g c =
 
 pub loop-i-again-in-Continue· : need.loop-i-again-in-Continue·
 loop-i-again-in-Continue· g c =
-    (added isHouse (λ h. h .pass .key) (c .args .tickets .now) (c .loop-i .i) (c .index-tickets-i .result) (vec-items (c .args .keys .now)) (vec-items (c .loop-i .keys)) _ (c .loop-i-test .taken) (c .loop-i .inv .1) (c .index-tickets-i .is) (eq-eqb _ _ (c .if-pass-eq0 .taken)) (c .loop-i .inv .0) (c .in-Continue-push .ensures tt .items), omega (arith, c .loop-i .inv .1))
+    (added isHouse (λ h. h .pass .key) (c .args .tickets .now) (c .loop-i .i) (getD (c .args .tickets .now) (c .loop-i .i - 1) (c .index-tickets-i .result)) (vec-items (c .args .keys .now)) (vec-items (c .loop-i .keys)) _ (c .loop-i-test .taken) (c .loop-i .inv .1) (getD-default (c .args .tickets .now) (c .loop-i .i - 1) (c .index-tickets-i .result) _ (omega (arith, c .loop-i .inv .1, c .loop-i-test .taken))) (eq-eqb _ _ (c .if-pass-eq0 .taken)) (c .loop-i .inv .0) (c .in-Continue-push .ensures tt .items), omega (arith, c .loop-i .inv .1))
 
 pub loop-i-again : need.loop-i-again
 loop-i-again g c =
-    (passed-over isHouse (λ h. h .pass .key) (c .args .tickets .now) (c .loop-i .i) (c .index-tickets-i .result) (vec-items (c .args .keys .now)) (vec-items (c .loop-i .keys)) (c .loop-i-test .taken) (c .loop-i .inv .1) (c .index-tickets-i .is) (ne-eqb _ _ (c .if-pass-eq0 .left)) (c .loop-i .inv .0), omega (arith, c .loop-i .inv .1))
+    (passed-over isHouse (λ h. h .pass .key) (c .args .tickets .now) (c .loop-i .i) (getD (c .args .tickets .now) (c .loop-i .i - 1) (c .index-tickets-i .result)) (vec-items (c .args .keys .now)) (vec-items (c .loop-i .keys)) (c .loop-i-test .taken) (c .loop-i .inv .1) (getD-default (c .args .tickets .now) (c .loop-i .i - 1) (c .index-tickets-i .result) _ (omega (arith, c .loop-i .inv .1, c .loop-i-test .taken))) (ne-eqb _ _ (c .if-pass-eq0 .left)) (c .loop-i .inv .0), omega (arith, c .loop-i .inv .1))

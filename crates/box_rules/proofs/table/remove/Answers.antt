@@ -10,8 +10,8 @@ loop-i-again c =
     let i = c .loop-i .inv in
     let h = sym (c .same .ensures) in
     elim (c .if-not-same .came) [
-    then-not-same w ↦ simp (w .table-is, w .k-is) (keeping-more-swap (i .0) (omega (arith, i .0)) (ap (λ (b : Bool). not b) (h ∙ w .if-not-same .taken)) (c .index .ensures) (w .swap .ensures .places), omega (arith, i .1, w .swap .ensures .capacity))
-    | else-not-same w ↦ simp (w .table-is, w .k-is) (keeping-more-no (i .0) (omega (arith, i .0)) (ap (λ (b : Bool). not b) (h ∙ w .if-not-same .left)) (c .index .ensures), i .1)
+      | then-not-same w ↦ simp (w .table-is, w .k-is) (keeping-more-swap (i .0) (omega (arith, i .0)) (ap (λ (b : Bool). not b) (h ∙ w .if-not-same .taken)) (c .index .ensures) (w .swap .ensures .places), omega (arith, i .1, w .swap .ensures .capacity))
+      | else-not-same w ↦ simp (w .table-is, w .k-is) (keeping-more-no (i .0) (omega (arith, i .0)) (ap (λ (b : Bool). not b) (h ∙ w .if-not-same .left)) (c .index .ensures), i .1)
     ]
 
 pub returns : need.returns
