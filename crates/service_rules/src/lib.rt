@@ -2,7 +2,6 @@
 
 mod answer;
 mod decide;
-mod held;
 mod memory;
 mod side;
 mod start;
@@ -10,9 +9,6 @@ mod start;
 pub use answer::Answer;
 pub use answer::Deed;
 pub use decide::is_nobody;
-pub use held::Cut;
-pub use held::Held;
-pub use held::HeldMemory;
 pub use memory::Memory;
 pub use memory::ROOM;
 pub use side::Side;

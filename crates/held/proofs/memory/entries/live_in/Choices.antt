@@ -1,6 +1,6 @@
-use Rattle.service_rules.proofs.held.entries.live_in.Given as given
+use Rattle.held.proofs.memory.entries.live_in.Given as given
 use Prim.Native.Nat.{_+_, _≤_}
 use Rattle.service_rules.specs.Memory.{liveOf}
 use lib.ListN.{drop, length}
 use mathlib.Core.Path.{_≡_}
 

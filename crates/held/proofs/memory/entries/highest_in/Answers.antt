@@ -1,7 +1,7 @@
 use Prim.Native.Nat.{max}
-use Rattle.service_rules.proofs.Entries.{highest-more}
-use Rattle.service_rules.proofs.held.entries.highest_in.Needs as need
+use Rattle.held.proofs.Entries.{highest-more}
+use Rattle.held.proofs.memory.entries.highest_in.Needs as need
 use Rattle.service_rules.specs.Memory.{highest}
 use Rattle.std.proofs.shelf.Lists.{at-drop-all}
 use lib.ListN.{drop}
 use mathlib.Core.Path.{_≡_}

@@ -4,9 +4,9 @@
 -- rejunk c j             whether something on the device can't be read
 use Prim.Native.Nat.{ℕ}
 use Rattle.parts.specs.declared.account.Entry.{Entry}
 use Rattle.service_rules.specs.Memory.{liveOf, recorded}
-use Rattle.service_rules.specs.declared.held.Cut.{Cut}
-use Rattle.service_rules.specs.declared.held.Cut.the-variants.{Junk, New, Old}
+use Rattle.held.specs.declared.memory.Cut.{Cut}
+use Rattle.held.specs.declared.memory.Cut.the-variants.{Junk, New, Old}
 use lib.Dec.{ltb}
 use lib.ListN.{length}
 use mathlib.Core.Bool.{Bool, cond, false, true}

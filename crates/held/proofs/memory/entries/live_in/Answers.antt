@@ -1,7 +1,7 @@
-use Rattle.service_rules.proofs.Entries.{length-live-no, length-live-yes}
-use Rattle.service_rules.proofs.held.entries.live_in.Needs as need
-use Rattle.service_rules.proofs.held.entries.live_in.Needs.{else-is-live, then-is-live}
+use Rattle.held.proofs.Entries.{length-live-no, length-live-yes}
+use Rattle.held.proofs.memory.entries.live_in.Needs as need
+use Rattle.held.proofs.memory.entries.live_in.Needs.{else-is-live, then-is-live}
 use Rattle.service_rules.specs.Memory.{liveOf}
 use Rattle.std.proofs.shelf.Lists.{at-drop-all}
 use lib.ListN.{length}
 use mathlib.Core.Path.{_∙_, sym}

@@ -1,13 +1,11 @@
 // How a memory that is held by value remembers, and what a crash leaves of it.
 ghost use Rattle.parts.specs.declared.account.Entry.{Entry};
-ghost use Rattle.service_rules.specs.Crash.{rejunk, reread};
+ghost use Rattle.held.specs.Crash.{rejunk, reread};
 ghost use Rattle.std.specs.Of.Vec.{vec-items};
 ghost use Rattle.std.specs.Vec.{made};
 ghost use mathlib.Core.Bool.{false, true};
 ghost use mathlib.Core.List.{[]};
 ghost use mathlib.Core.Path.{_≡_};
-use super::super::memory::Memory;
-use super::super::memory::ROOM;
 use super::Cut;
 use super::Held;
 use super::entries::forget;
@@ -15,6 +13,8 @@ use super::entries::highest_in;
 use super::entries::live_in;
 use super::entries::stands_in;
 use parts::Entry;
+use service_rules::Memory;
+use service_rules::ROOM;
 use std::alloc::AllocError;
 use std::alloc::Global;
 

@@ -1,6 +1,6 @@
-use Rattle.service_rules.proofs.held.entries.highest_in.Given as given
+use Rattle.held.proofs.memory.entries.highest_in.Given as given
 use Prim.Native.Nat.{max}
 use Rattle.service_rules.specs.Memory.{highest}
 use lib.ListN.{drop}
 use mathlib.Core.Path.{_≡_}
 

@@ -1,6 +1,6 @@
-use Rattle.service_rules.proofs.Entries.{stands-live-more}
-use Rattle.service_rules.proofs.held.entries.stands_in.Needs as need
+use Rattle.held.proofs.Entries.{stands-live-more}
+use Rattle.held.proofs.memory.entries.stands_in.Needs as need
 use Rattle.service_rules.specs.Memory.{liveOf, stands}
 use Rattle.std.proofs.shelf.Lists.{at-drop-all}
 use borrow.Author.Needs.{needs}
 

@@ -1,5 +1,5 @@
-use Rattle.service_rules.proofs.held.entries.forget.Needs as need
-use Rattle.service_rules.proofs.held.entries.forget.Needs.{else-is-live, then-is-live}
+use Rattle.held.proofs.memory.entries.forget.Needs as need
+use Rattle.held.proofs.memory.entries.forget.Needs.{else-is-live, then-is-live}
 use Rattle.std.proofs.shelf.Filters.{keeping-all, keeping-more-no, keeping-more-swap}
 use mathlib.Core.Path.{_∙_, sym}
 use native.Mathlib.Omega.{arith}

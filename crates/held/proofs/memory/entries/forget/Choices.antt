@@ -1,4 +1,4 @@
-use Rattle.service_rules.proofs.held.entries.forget.Given as given
+use Rattle.held.proofs.memory.entries.forget.Given as given
 use Rattle.parts.specs.Tick.{live}
 use Rattle.std.proofs.shelf.Filters.{Keeping}
 use Rattle.std.specs.Of.Vec.{vec-cap, vec-items}

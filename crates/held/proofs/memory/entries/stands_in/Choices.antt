@@ -1,5 +1,5 @@
-use Rattle.service_rules.proofs.held.entries.stands_in.Given as given
+use Rattle.held.proofs.memory.entries.stands_in.Given as given
 use Rattle.service_rules.specs.Memory.{liveOf, stands}
 use lib.ListN.{drop}
 use mathlib.Core.Path.{_≡_}
 
