@@ -1,0 +1,4 @@
+pub mod Tables
+pub mod Tried
+pub mod Wanted
+pub mod Taken
