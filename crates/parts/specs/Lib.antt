@@ -1,1 +1,4 @@
 pub mod Fault
+pub mod Tick
+pub mod Condition
+pub mod Drawn

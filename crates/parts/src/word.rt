@@ -1,12 +1,36 @@
 // The contents of each kind of lock, by value.
+ghost use Rattle.std.specs.shelf.Text.{sameBytes};
+ghost use mathlib.Core.Path.{_≡_};
 
 // A key of 32 bytes: somebody's own key, or a session key that the house drew.
-#[derive(Clone, Copy, PartialEq, Eq)]
+#[derive(Clone, Copy)]
 pub struct Key(pub [u8; 32]);
 
 // A nonce of 16 drawn bytes, by which a login or an asking is known.
-#[derive(Clone, Copy, PartialEq, Eq)]
+#[derive(Clone, Copy)]
 pub struct Number(pub [u8; 16]);
+
+// The 16 drawn bytes with which a lock is made.
+#[derive(Clone, Copy)]
+pub struct Salt(pub [u8; 16]);
+
+impl Key {
+    // Are the bytes the same?
+    pub fn same(&self, other: &Key) -> bool
+        ensures { λ r. ⌜ r ≡ sameBytes (now (self .entry) .0) (now (other .entry) .0) ⌝ }
+    {
+        self.0 == other.0
+    }
+}
+
+impl Number {
+    // Are the bytes the same?
+    pub fn same(&self, other: &Number) -> bool
+        ensures { λ r. ⌜ r ≡ sameBytes (now (self .entry) .0) (now (other .entry) .0) ⌝ }
+    {
+        self.0 == other.0
+    }
+}
 
 // What is asked, in the reader's own words: the first `len` of these bytes.
 #[derive(Clone, Copy)]

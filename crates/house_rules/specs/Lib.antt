@@ -1,0 +1,5 @@
+pub mod Account
+pub mod Fresh
+pub mod House
+pub mod Change
+pub mod Start

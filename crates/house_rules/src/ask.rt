@@ -1,0 +1,1 @@
+// The decision on an asking for a ticket.

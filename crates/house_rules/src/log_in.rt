@@ -1,0 +1,58 @@
+// The decision on a login.
+ghost use Rattle.house_rules.specs.Account.{closed, isAbsent, isClosed, keyIn, ownKey, unknown};
+ghost use Rattle.house_rules.specs.House.{LogsIn, home};
+ghost use mathlib.Core.Path.{_≡_};
+use super::accounts::Accounts;
+use super::fresh::draw;
+use super::house::House;
+use super::reply::Grant;
+use super::reply::Reply;
+use parts::Account;
+use parts::Drawn;
+use parts::Fault;
+use parts::Key;
+use parts::Letter;
+use parts::Lock;
+use parts::Login;
+use parts::Ticket;
+use parts::check;
+use parts::is_lately;
+use parts::lowest;
+use service_rules::Memory;
+use service_rules::is_nobody;
+
+// Has nobody an account with this number?
+pub fn is_unknown<A: Accounts>(accounts: &A, number: u16) -> bool
+    ensures { λ r. ⌜ r ≡ unknown (listed (now (accounts .entry))) number ⌝ }
+{
+    is_nobody(number) || absent(accounts.account(number))
+}
+
+fn absent(account: Account) -> bool
+    ensures { λ r. ⌜ r ≡ isAbsent account ⌝ }
+{
+    match account {
+        Account::Absent => true,
+        Account::Open(_) | Account::Closed(_) => false,
+    }
+}
+
+// Is the account closed?
+pub fn is_closed<A: Accounts>(accounts: &A, number: u16) -> bool
+    ensures { λ r. ⌜ r ≡ closed (listed (now (accounts .entry))) number ⌝ }
+{
+    match accounts.account(number) {
+        Account::Absent | Account::Open(_) => false,
+        Account::Closed(_) => true,
+    }
+}
+
+// The own key; zeros where there is no account.
+pub fn own_key<A: Accounts>(accounts: &A, number: u16) -> Key
+    ensures { λ r. ⌜ r ≡ ownKey (listed (now (accounts .entry))) number ⌝ }
+{
+    match accounts.account(number) {
+        Account::Absent => Key([0; 32]),
+        Account::Open(key) | Account::Closed(key) => key,
+    }
+}

@@ -1,0 +1,4 @@
+pub mod Memory
+pub mod Service
+pub mod Side
+pub mod Crash
