@@ -11,9 +11,9 @@
 -- refusal r               the fault of an answer, if it is one
 use Prim.Native.Nat.{ℕ, _*_, _+_}
 use Rattle.house_rules.specs.Account.{closed, ownKey, unknown}
-use Rattle.house_rules.specs.Fresh.{freshOf}
+use Rattle.house_rules.specs.Give.{giving}
+use Rattle.house_rules.specs.declared.give.Given.{Given}
 use Rattle.house_rules.specs.declared.house.House.{House}
-use Rattle.house_rules.specs.declared.reply.Grant.{Grant}
 use Rattle.house_rules.specs.declared.reply.Reply.{Reply}
 use Rattle.house_rules.specs.declared.reply.Reply.the-variants.{Granted, Refused}
 use Rattle.parts.specs.Condition.{Lowest, firstFault, row}
@@ -23,12 +23,9 @@ use Rattle.parts.specs.declared.account.Entry.{Entry}
 use Rattle.parts.specs.declared.condition.Condition.{Condition}
 use Rattle.parts.specs.declared.fault.Fault.{Fault}
 use Rattle.parts.specs.declared.fault.Fault.the-variants.{AccountClosed, BadInside, DoneBefore, NoDrawnBytes, NoRoom, NotLately, NotNow, TicketOver, Unknown, WrongService}
-use Rattle.parts.specs.declared.lock.Lock.{Lock}
 use Rattle.parts.specs.declared.word.Asking.{Asking}
 use Rattle.parts.specs.declared.word.Key.{Key}
-use Rattle.parts.specs.declared.word.Letter.{Letter}
 use Rattle.parts.specs.declared.word.Login.{Login}
-use Rattle.parts.specs.declared.word.Number.{Number}
 use Rattle.parts.specs.declared.word.Ticket.{Ticket}
 use Rattle.service_rules.specs.Memory.{liveOf, recorded, stands}
 use Rattle.service_rules.specs.Service.{unless}
@@ -62,39 +59,33 @@ home h xs es j w bs =
 abbrev pub untilOf : Home → ℕ
 untilOf h = h .side .now + h .life
 
--- what is given: a ticket under the service's own key, and a letter under a key that the reader has
-abbrev pub ticketOf : Home → (own : Key) → (service reader : ℕ) → Lock Ticket
-ticketOf h own v a = record {
-  key = own;
-  salt = freshOf (h .left) .ticket;
-  inside = record { service = v; reader = a; key = freshOf (h .left) .key; until = untilOf h }
-}
-
-abbrev pub letterOf : Home → (under : Key) → Number → (service : ℕ) → Lock Letter
-letterOf h under n v = record {
-  key = under;
-  salt = freshOf (h .left) .letter;
-  inside = record { number = n; service = v; key = freshOf (h .left) .key; until = untilOf h }
-}
-
-abbrev pub grantOf : Home → (service reader : ℕ) → Number → (asked : ℕ) → Grant
-grantOf h v a n t = record { reader = a; service = v; number = n; asked = t; until = untilOf h }
-
-abbrev pub loginConditions : Home → ℕ → Login → List Condition
-loginConditions h a l =
-    row Unknown (unknown (h .accounts) a)
-    ∷ row AccountClosed (closed (h .accounts) a)
-    ∷ row NotLately (not (lately (h .side .now) (h .side .lag) (l .tick)))
-    ∷ row NoDrawnBytes (ltb (length (h .left)) 64)
-    ∷ row NotNow (waiting (h .side))
+-- what can be wrong with a login
+abbrev pub loginJudged : Side → List Account → List ℕ → ℕ → Login → List Condition
+loginJudged s xs bs a l =
+    row Unknown (unknown xs a)
+    ∷ row AccountClosed (closed xs a)
+    ∷ row NotLately (not (lately (s .now) (s .lag) (l .tick)))
+    ∷ row NoDrawnBytes (ltb (length bs) 64)
+    ∷ row NotNow (waiting s)
     ∷ []
 
--- a ticket for the house itself, and a letter under the reader's own key
+abbrev pub loginConditions : Home → ℕ → Login → List Condition
+loginConditions h a l = loginJudged (h .side) (h .accounts) (h .left) a l
+
+-- a ticket for the house itself, under its own key, and a letter under the reader's own key
+abbrev pub loginGiven : Home → ℕ → Login → Given
+loginGiven h a l = record {
+  service = 0;
+  reader = a;
+  number = l .number;
+  asked = l .tick;
+  own = h .key;
+  under = ownKey (h .accounts) a;
+}
+
 abbrev pub loggedIn : Home → ℕ → Login → Reply
 loggedIn h a l =
-    unless (firstFault (loginConditions h a l))
-      (Granted (grantOf h 0 a (l .number) (l .tick)) (ticketOf h (h .key) 0 a) (letterOf h (ownKey (h .accounts) a) (l .number) 0))
-      Refused
+    unless (firstFault (loginConditions h a l)) (giving (untilOf h) (h .left) (loginGiven h a l)) Refused
 
 -- the drawn bytes of a grant are used
 abbrev pub drew : Home → Home
@@ -106,7 +97,7 @@ drew h = record {
   kept = h .kept;
   junk = h .junk;
   writes = h .writes;
-  left = drop 64 (h .left)
+  left = drop 64 (h .left);
 }
 
 -- what is done is remembered, and what is old is forgotten; the write mends the device
@@ -119,7 +110,7 @@ noted h d = record {
   kept = recorded (h .side .now) (h .side .lag) d (h .kept);
   junk = false;
   writes = h .writes;
-  left = h .left
+  left = h .left;
 }
 
 -- a login is not remembered
@@ -147,30 +138,36 @@ abbrev pub misled : Asking → Bool
 misled q = not (forHouse q) || eqb (wanted q) 0
 
 -- what can be wrong before anything is written
-abbrev pub judged : Home → Ticket → Asking → ℕ → List Condition
-judged h t q d =
-    row Unknown (unknown (h .accounts) (t .reader) || missing (h .accounts) q)
-    ∷ row AccountClosed (closed (h .accounts) (t .reader))
-    ∷ row NotLately (not (lately (h .side .now) (h .side .lag) (q .tick)))
-    ∷ row TicketOver (over (h .side .now) (t .until))
-    ∷ row DoneBefore (stands d (liveOf (h .side .now) (h .side .lag) (h .kept)))
-    ∷ row NoRoom (leb 8192 (length (liveOf (h .side .now) (h .side .lag) (h .kept))))
+abbrev pub judged : Side → List Account → List Entry → List ℕ → Ticket → Asking → ℕ → List Condition
+judged s xs es bs t q d =
+    row Unknown (unknown xs (t .reader) || missing xs q)
+    ∷ row AccountClosed (closed xs (t .reader))
+    ∷ row NotLately (not (lately (s .now) (s .lag) (q .tick)))
+    ∷ row TicketOver (over (s .now) (t .until))
+    ∷ row DoneBefore (stands d (liveOf (s .now) (s .lag) es))
+    ∷ row NoRoom (leb 8192 (length (liveOf (s .now) (s .lag) es)))
     ∷ row WrongService (not (eqb (t .service) 0) || misled q)
-    ∷ row NoDrawnBytes (ltb (length (h .left)) 64)
-    ∷ row NotNow (waiting (h .side))
+    ∷ row NoDrawnBytes (ltb (length bs) 64)
+    ∷ row NotNow (waiting s)
     ∷ []
 
 -- last of all the device may not write
 abbrev pub conditions : Home → Ticket → Asking → ℕ → List Condition
-conditions h t q d = judged h t q d ++ (row NotNow (not (h .writes)) ∷ [])
+conditions h t q d = judged (h .side) (h .accounts) (h .kept) (h .left) t q d ++ (row NotNow (not (h .writes)) ∷ [])
 
 -- a ticket under the service's own key, and a letter under the ticket's key
+abbrev pub askedGiven : Home → Ticket → Asking → Given
+askedGiven h t q = record {
+  service = wanted q;
+  reader = t .reader;
+  number = q .number;
+  asked = q .tick;
+  own = ownKey (h .accounts) (wanted q);
+  under = t .key;
+}
+
 abbrev pub granted : Home → Ticket → Asking → Reply
-granted h t q =
-    Granted
-      (grantOf h (wanted q) (t .reader) (q .number) (q .tick))
-      (ticketOf h (ownKey (h .accounts) (wanted q)) (wanted q) (t .reader))
-      (letterOf h (t .key) (q .number) (wanted q))
+granted h t q = giving (untilOf h) (h .left) (askedGiven h t q)
 
 -- an asking that can't be read is refused before its conditions are looked at
 abbrev pub answered : Home → Ticket → Asking → ℕ → Reply

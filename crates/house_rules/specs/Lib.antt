@@ -1,5 +1,6 @@
 pub mod Account
 pub mod Fresh
+pub mod Give
 pub mod House
 pub mod Change
 pub mod Start

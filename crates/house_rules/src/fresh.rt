@@ -7,6 +7,9 @@ use parts::Drawn;
 use parts::Key;
 use parts::Salt;
 
+// How many bytes a grant draws.
+pub(crate) const DRAWN: usize = 64;
+
 // What a grant draws: the session key, and the bytes for the ticket's and the letter's lock.
 #[derive(Clone, Copy)]
 pub struct Fresh {
@@ -24,5 +27,9 @@ pub(crate) fn draw<D: Drawn>(drawn: &mut D) -> Fresh
     let key = Key(drawn.take_32());
     let ticket = Salt(drawn.take_16());
     let letter = Salt(drawn.take_16());
-    Fresh { key, ticket, letter }
+    Fresh {
+        key,
+        ticket,
+        letter,
+    }
 }

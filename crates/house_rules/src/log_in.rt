@@ -1,58 +1,75 @@
 // The decision on a login.
-ghost use Rattle.house_rules.specs.Account.{closed, isAbsent, isClosed, keyIn, ownKey, unknown};
-ghost use Rattle.house_rules.specs.House.{LogsIn, home};
+ghost use Rattle.house_rules.specs.House.{LogsIn, home, loginJudged};
+ghost use Rattle.parts.specs.Condition.{firstFault};
+ghost use Rattle.parts.specs.declared.account.Entry.{Entry};
+ghost use mathlib.Core.Bool.{Bool};
+ghost use mathlib.Core.List.{List};
 ghost use mathlib.Core.Path.{_≡_};
 use super::accounts::Accounts;
-use super::fresh::draw;
+use super::fresh::DRAWN;
+use super::give::Given;
 use super::house::House;
-use super::reply::Grant;
+use super::known::is_closed;
+use super::known::is_unknown;
+use super::known::own_key;
 use super::reply::Reply;
-use parts::Account;
 use parts::Drawn;
 use parts::Fault;
-use parts::Key;
-use parts::Letter;
-use parts::Lock;
 use parts::Login;
-use parts::Ticket;
 use parts::check;
 use parts::is_lately;
 use parts::lowest;
-use service_rules::Memory;
-use service_rules::is_nobody;
 
-// Has nobody an account with this number?
-pub fn is_unknown<A: Accounts>(accounts: &A, number: u16) -> bool
-    ensures { λ r. ⌜ r ≡ unknown (listed (now (accounts .entry))) number ⌝ }
-{
-    is_nobody(number) || absent(accounts.account(number))
-}
-
-fn absent(account: Account) -> bool
-    ensures { λ r. ⌜ r ≡ isAbsent account ⌝ }
-{
-    match account {
-        Account::Absent => true,
-        Account::Open(_) | Account::Closed(_) => false,
+impl House {
+    // What is wrong with a login.
+    fn judge_login<A: Accounts, D: Drawn>(
+        &self,
+        accounts: &A,
+        drawn: &D,
+        reader: u16,
+        login: Login,
+    ) -> Option<Fault>
+        ensures { λ r. ⌜ r ≡ firstFault (loginJudged (now (self .entry) .side) (listed (now (accounts .entry))) (left (now (drawn .entry))) reader login) ⌝ }
+    {
+        lowest(
+            &[
+                check(Fault::Unknown, is_unknown(accounts, reader)),
+                check(Fault::AccountClosed, is_closed(accounts, reader)),
+                check(
+                    Fault::NotLately,
+                    !is_lately(self.side.now, self.side.lag, login.tick),
+                ),
+                check(Fault::NoDrawnBytes, drawn.count() < DRAWN),
+                check(Fault::NotNow, self.side.waits()),
+            ],
+        )
     }
-}
 
-// Is the account closed?
-pub fn is_closed<A: Accounts>(accounts: &A, number: u16) -> bool
-    ensures { λ r. ⌜ r ≡ closed (listed (now (accounts .entry))) number ⌝ }
-{
-    match accounts.account(number) {
-        Account::Absent | Account::Open(_) => false,
-        Account::Closed(_) => true,
-    }
-}
-
-// The own key; zeros where there is no account.
-pub fn own_key<A: Accounts>(accounts: &A, number: u16) -> Key
-    ensures { λ r. ⌜ r ≡ ownKey (listed (now (accounts .entry))) number ⌝ }
-{
-    match accounts.account(number) {
-        Account::Absent => Key([0; 32]),
-        Account::Open(key) | Account::Closed(key) => key,
+    // Decides on a login of a reader, whatever the memory is: a login is not remembered, and a device that does not
+    // write does not refuse it.
+    pub fn log_in<A: Accounts, D: Drawn>(
+        &self,
+        accounts: &A,
+        drawn: &mut D,
+        reader: u16,
+        login: Login,
+    ) -> Reply
+        ensures { λ r. ⌜ ((es : List Entry) (j w : Bool) → LogsIn
+            (home (now (self .entry)) (listed (now (accounts .entry))) es j w (left (now (drawn .entry))))
+            reader login r
+            (home (now (self .exit)) (listed (now (accounts .exit))) es j w (left (now (drawn .exit))))) ⌝ }
+    {
+        if let Some(fault) = self.judge_login(accounts, drawn, reader, login) {
+            return Reply::Refused(fault);
+        }
+        let given = Given {
+            service: 0,
+            reader,
+            number: login.number,
+            asked: login.tick,
+            own: self.key,
+            under: own_key(accounts, reader),
+        };
+        self.give(drawn, given)
     }
 }

@@ -12,7 +12,13 @@ use service_rules::Side;
 
 impl House {
     // Starts the house at a tick with what is read of its memory.
-    pub fn start<M: Memory>(life: u32, lag: u64, tick: u64, key: Key, memory: &M) -> Result<House, Fault>
+    pub fn start<M: Memory>(
+        life: u32,
+        lag: u64,
+        tick: u64,
+        key: Key,
+        memory: &M,
+    ) -> Result<House, Fault>
         ensures { λ r. ⌜ settledOf r ≡ startedHouse life lag tick key (kept (now (memory .entry))) (junk (now (memory .entry))) ⌝ }
     {
         if life == 0 || life > 86400 {
