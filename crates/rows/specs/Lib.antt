@@ -1,0 +1,3 @@
+pub mod Name
+pub mod Word
+pub mod Setting

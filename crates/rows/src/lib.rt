@@ -1,0 +1,1 @@
+// Rows of events: whatever house, boxes and services do by their decisions is a run of the model.
