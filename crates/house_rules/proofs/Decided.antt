@@ -8,7 +8,7 @@ use Rattle.house_rules.specs.declared.house.House.{House}
 use Rattle.house_rules.specs.declared.reply.Reply.{Reply}
 use Rattle.house_rules.specs.declared.reply.Reply.the-variants.{Granted, Refused}
 use Rattle.parts.proofs.Conditions.{firstFault-cons, firstFault-last-none, firstFault-last-some, firstFault-nil, lowest-first, passed}
-use Rattle.parts.specs.Condition.{Lowest, firstFault, row}
+use Rattle.parts.specs.Condition.{Lowest, firstFault, row, unless}
 use Rattle.parts.specs.declared.account.Account.{Account}
 use Rattle.parts.specs.declared.account.Entry.{Entry}
 use Rattle.parts.specs.declared.fault.Fault.{Fault}
@@ -19,7 +19,6 @@ use Rattle.parts.specs.declared.word.Login.{Login}
 use Rattle.parts.specs.declared.word.Number.{Number}
 use Rattle.parts.specs.declared.word.Ticket.{Ticket}
 use Rattle.service_rules.specs.Memory.{liveOf, recorded}
-use Rattle.service_rules.specs.Service.{unless}
 use Rattle.service_rules.specs.declared.side.Side.{Side}
 use Rattle.std.proofs.shelf.Tests.{both-ways, leb-false, ltb-false}
 use Rattle.std.specs.declared.option.Option.{Option}

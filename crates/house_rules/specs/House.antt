@@ -16,7 +16,7 @@ use Rattle.house_rules.specs.declared.give.Given.{Given}
 use Rattle.house_rules.specs.declared.house.House.{House}
 use Rattle.house_rules.specs.declared.reply.Reply.{Reply}
 use Rattle.house_rules.specs.declared.reply.Reply.the-variants.{Granted, Refused}
-use Rattle.parts.specs.Condition.{Lowest, firstFault, row}
+use Rattle.parts.specs.Condition.{Lowest, firstFault, row, unless}
 use Rattle.parts.specs.Tick.{lately, over}
 use Rattle.parts.specs.declared.account.Account.{Account}
 use Rattle.parts.specs.declared.account.Entry.{Entry}
@@ -28,7 +28,6 @@ use Rattle.parts.specs.declared.word.Key.{Key}
 use Rattle.parts.specs.declared.word.Login.{Login}
 use Rattle.parts.specs.declared.word.Ticket.{Ticket}
 use Rattle.service_rules.specs.Memory.{liveOf, recorded, stands}
-use Rattle.service_rules.specs.Service.{unless}
 use Rattle.service_rules.specs.Side.{waiting}
 use Rattle.service_rules.specs.declared.side.Side.{Side}
 use Rattle.std.specs.declared.option.Option.{Option}

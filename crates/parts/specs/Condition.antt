@@ -3,6 +3,7 @@
 -- row f b            this fault, if b
 -- firstFault rows    the fault of the first row that fails
 -- ascends rows       the rows stand in the order of their faults' numbers
+-- unless o x f       x where nothing is wrong, else f of the fault
 -- Lowest rows o      o is the lowest fault of the rows that fail, and nothing where none fails
 use Prim.Native.Nat.{ℕ, _≤_}
 use Rattle.parts.specs.Fault.{faultNumber}
@@ -35,3 +36,8 @@ Lowest cs None = (c : Condition) → List·Memᴰ c cs → c .fails ≡ false
 Lowest cs (Some f) =
     ((c : Condition) × List·Memᴰ c cs × (c .fails ≡ true) × (c .fault ≡ f))
     × ((c : Condition) → List·Memᴰ c cs → c .fails ≡ true → faultNumber f ≤ faultNumber (c .fault))
+
+-- this where nothing is wrong, else that
+abbrev pub unless : {A : Type 0} → Option Fault → A → (Fault → A) → A
+unless None x f = x
+unless (Some e) x f = f e

@@ -1,14 +1,14 @@
 -- What is answered and left, by what was found wrong. Assumes nothing.
 use Prim.Native.Nat.{ℕ, _<_, _≤_}
 use Rattle.parts.proofs.Conditions.{firstFault-cons, firstFault-last-none, firstFault-last-some, firstFault-nil, lowest-first, passed}
-use Rattle.parts.specs.Condition.{Lowest, firstFault, row}
+use Rattle.parts.specs.Condition.{Lowest, firstFault, row, unless}
 use Rattle.parts.specs.declared.account.Entry.{Entry}
 use Rattle.parts.specs.declared.fault.Fault.{Fault}
 use Rattle.parts.specs.declared.fault.Fault.the-variants.{NotNow}
 use Rattle.parts.specs.declared.word.Asking.{Asking}
 use Rattle.parts.specs.declared.word.Ticket.{Ticket}
 use Rattle.service_rules.specs.Memory.{liveOf, recorded}
-use Rattle.service_rules.specs.Service.{Decides, View, after, answered, conditions, deedOf, doneBy, judged, receiptOf, refusal, unless, view}
+use Rattle.service_rules.specs.Service.{Decides, View, after, answered, conditions, deedOf, doneBy, judged, receiptOf, refusal, view}
 use Rattle.service_rules.specs.declared.answer.Answer.{Answer}
 use Rattle.service_rules.specs.declared.answer.Answer.the-variants.{Done, Refused}
 use Rattle.service_rules.specs.declared.side.Side.{Side}

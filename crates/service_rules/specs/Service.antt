@@ -7,7 +7,7 @@
 -- refusal r           the fault of an answer, if it is one
 -- Decides v t a d r w what is promised of a decision with answer r that leaves w
 use Prim.Native.Nat.{ℕ}
-use Rattle.parts.specs.Condition.{Lowest, firstFault, row}
+use Rattle.parts.specs.Condition.{Lowest, firstFault, row, unless}
 use Rattle.parts.specs.Drawn.{saltOf}
 use Rattle.parts.specs.Tick.{lately, over}
 use Rattle.parts.specs.declared.account.Entry.{Entry}
@@ -71,11 +71,6 @@ deedOf t a = record { reader = t .reader; number = a .number; what = a .what; as
 -- what is sent: a receipt under the ticket's key
 abbrev pub receiptOf : View → Ticket → Asking → Lock Receipt
 receiptOf v t a = record { key = t .key; salt = saltOf (v .left); inside = record { number = a .number } }
-
--- this where nothing is wrong, else that
-abbrev pub unless : {A : Type 0} → Option Fault → A → (Fault → A) → A
-unless None x f = x
-unless (Some e) x f = f e
 
 abbrev pub answered : View → Ticket → Asking → ℕ → Answer
 answered v t a d = unless (firstFault (conditions v t a d)) (Done (deedOf t a) (receiptOf v t a)) Refused

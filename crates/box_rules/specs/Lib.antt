@@ -1,0 +1,5 @@
+pub mod Table
+pub mod Chest
+pub mod Keys
+pub mod Line
+pub mod Letter
