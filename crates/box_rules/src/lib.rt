@@ -1,9 +1,6 @@
-// What a reader's box does: with a line of its reader, a letter, a receipt and a refusal.
-
 mod answer;
 mod chest;
 mod line;
-mod table;
 
 pub use answer::Answer;
 pub use answer::Got;

@@ -1,2 +1,5 @@
 pub mod Names
 pub mod Noting
+pub mod Pairs
+pub mod Matches
+pub mod Sides

@@ -19,6 +19,8 @@ use Rattle.house_rules.specs.declared.reply.Reply.{Reply}
 use Rattle.house_rules.specs.declared.reply.Reply.the-variants.{Granted, Refused as NotGranted}
 use Rattle.service_rules.specs.declared.answer.Answer.{Answer}
 use Rattle.service_rules.specs.declared.answer.Answer.the-variants.{Done, Refused}
+use Rattle.box_rules.specs.declared.answer.Answer as Told
+use Rattle.box_rules.specs.declared.answer.Answer.the-variants as told
 use Rattle.tickets.specs.Term.{Term, Num, Pair}
 use Rattle.tickets.specs.Term
 use Rattle.tickets.specs.Event.{Body, bodyTerm, letter, asking}
@@ -60,3 +62,26 @@ module _ (name : Bytes → Term) where
   abbrev pub answerSent : Answer → List Term
   answerSent (Done d l) = receiptTerm (l .key) (l .inside) ∷ []
   answerSent (Refused f) = []
+
+  -- what a box sends with an answer
+  abbrev pub toldSent : Told.Answer → List Term
+  toldSent (told.LogsIn l) = loginTerm (l .key) (l .inside) ∷ []
+  toldSent (told.Asks i l) = askingTerm (l .key) (l .inside) ∷ []
+  toldSent (told.Takes g l) = askingTerm (l .key) (l .inside) ∷ []
+  toldSent (told.Receipt i) = []
+  toldSent (told.Shown k) = []
+  toldSent (told.Wrong f) = []
+
+-- the number that a box draws with an answer
+abbrev pub toldDrawn : Told.Answer → List Bytes
+toldDrawn (told.LogsIn l) = l .inside .number .0 ∷ []
+toldDrawn (told.Asks i l) = l .inside .number .0 ∷ []
+toldDrawn (told.Takes g l) = l .inside .number .0 ∷ []
+toldDrawn (told.Receipt i) = []
+toldDrawn (told.Shown k) = []
+toldDrawn (told.Wrong f) = []
+
+-- the session key that the house draws with an answer
+abbrev pub replyDrawn : Reply → List Bytes
+replyDrawn (Granted g t l) = t .inside .key .0 ∷ []
+replyDrawn (NotGranted f) = []
