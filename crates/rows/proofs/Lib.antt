@@ -3,3 +3,8 @@ pub mod Noting
 pub mod Pairs
 pub mod Matches
 pub mod Sides
+pub mod Tied
+pub mod Quiet
+pub mod Accounts
+pub mod Ticking
+pub mod Doing

@@ -6,6 +6,7 @@ use mathlib.Core.List.{List, [], _∷_, _++_, List·Memᴰ}
 use Prim.Native.Nat.{ℕ, suc, _+_, _≤_, _<_}
 use native.Mathlib.Omega.{arith}
 use lib.ListN.{length}
+use Rattle.parts.specs.declared.account.Account.{Account}
 use Rattle.service_rules.specs.Service.{View}
 use Rattle.house_rules.specs.Account.{closed, unknown, ownKey}
 use Rattle.house_rules.specs.House.{Home}
@@ -30,9 +31,9 @@ module _ (c : Setting) (n : Naming (c .own)) where
     pub whose : closing .who ≡ k
     pub past : closing .at ≤ m .now
 
-  pub record AccountOk (h : Home) (k : ℕ) : Type 0 where
+  pub record AccountOk (xs : List Account) (k : ℕ) : Type 0 where
     pub there : k < length (c .own)
-    pub own : ownKey (h .accounts) k ≡ ownOf (c .own) k
+    pub own : ownKey xs k ≡ ownOf (c .own) k
 
   pub record HomeOk (m : State) (h : Home) : Type 0 where
     pub now-is : h .side .now ≡ m .now
@@ -40,7 +41,7 @@ module _ (c : Setting) (n : Naming (c .own)) where
     pub number-is : h .side .number ≡ 0
     pub life-is : h .life ≡ c .life
     pub key-is : h .key ≡ ownOf (c .own) 0
-    pub accounts : (k : ℕ) → unknown (h .accounts) k ≡ false → AccountOk h k
+    pub accounts : (k : ℕ) → unknown (h .accounts) k ≡ false → AccountOk (h .accounts) k
     pub is-open : (k : ℕ) → closed (h .accounts) k ≡ false → isClosed k (m .closed) ≡ false
     pub is-closed : (k : ℕ) → closed (h .accounts) k ≡ true → ClosedBy m k
     pub notes : Notes c n m 0 (h .side .wake) (h .junk) (h .kept)

@@ -151,3 +151,36 @@ notes-crash c n m v wake junk es Junk past w notes = record { of = λ d h e r. g
     go : (d : Done) → m .now ≤ d .at + c .lag → Noted c n es d ⊎ ((d .at + c .lag < wake) × (junk ≡ true)) → Noted c n es d ⊎ ((d .at + c .lag < m .now + c .lag + 1) × (true ≡ true))
     go d r (inl o) = inl o
     go d r (inr q) = absurd (let p = q .0 in omega arith)
+
+-- the same where it does not start again, and so waits as before
+notes-reread : (c : Setting) (n : Naming (c .own)) (m : State) (v wake : ℕ) (junk : Bool) (es : List Entry) (cut : Cut) → Writing cut (m .now) wake → Notes c n m v wake junk es
+    → Notes c n m v wake (rejunk (m .now) (c .lag) cut es junk) (reread (m .now) (c .lag) cut es)
+notes-reread c n m v wake junk es Old w notes = notes
+notes-reread c n m v wake junk es (New dg) w notes = by (fits (m .now) (c .lag) es)
+  where
+    noted : (d : Done) → m .now ≤ d .at + c .lag → Noted c n es d ⊎ ((d .at + c .lag < wake) × (junk ≡ true)) → Noted c n es d
+    noted d r (inl o) = o
+    noted d r (inr q) = absurd (let p = q .0 in omega arith)
+
+    by : (b : Bool) → Notes c n m v wake (cond b false junk) (cond b (recorded (m .now) (c .lag) dg es) es)
+    by true = record { of = λ d h e r. inl (noted-recorded c n (m .now) dg es d r (noted d r (notes .of d h e r))) }
+    by false = record { of = λ d h e r. inl (noted d r (notes .of d h e r)) }
+notes-reread c n m v wake junk es Junk w notes = record { of = λ d h e r. go d r (notes .of d h e r) }
+  where
+    go : (d : Done) → m .now ≤ d .at + c .lag → Noted c n es d ⊎ ((d .at + c .lag < wake) × (junk ≡ true)) → Noted c n es d ⊎ ((d .at + c .lag < wake) × (true ≡ true))
+    go d r (inl o) = inl o
+    go d r (inr q) = inr (q .0, refl)
+
+-- both, at the side's own tick and lag
+pub notes-again : (c : Setting) (n : Naming (c .own)) (m : State) (v wake now lag : ℕ) (junk : Bool) (es : List Entry) (cut : Cut) → now ≡ m .now → lag ≡ c .lag
+    → ((d : Done) → List·Memᴰ d (m .done) → d .at ≤ m .now) → Writing cut now wake → Notes c n m v wake junk es
+    → Notes c n m v (cond (rejunk now lag cut es junk) (now + lag + 1) 0) (rejunk now lag cut es junk) (reread now lag cut es)
+      × Notes c n m v wake (rejunk now lag cut es junk) (reread now lag cut es)
+notes-again c n m v wake now lag junk es cut e f past w notes =
+    subst (λ (x : ℕ). Both x lag) (sym e) (subst (λ (y : ℕ). Both (m .now) y) (sym f)
+    (notes-crash c n m v wake junk es cut past (subst (λ (x : ℕ). Writing cut x wake) e w) notes, notes-reread c n m v wake junk es cut (subst (λ (x : ℕ). Writing cut x wake) e w) notes))
+  where
+    Both : ℕ → ℕ → Type 0
+    Both x y =
+        Notes c n m v (cond (rejunk x y cut es junk) (x + y + 1) 0) (rejunk x y cut es junk) (reread x y cut es)
+        × Notes c n m v wake (rejunk x y cut es junk) (reread x y cut es)
