@@ -8,3 +8,5 @@ pub mod Quiet
 pub mod Accounts
 pub mod Ticking
 pub mod Doing
+pub mod Tables
+pub mod Wanting
