@@ -10,3 +10,4 @@ pub mod Ticking
 pub mod Doing
 pub mod Tables
 pub mod Wanting
+pub mod Taking
