@@ -11,3 +11,4 @@ pub mod Doing
 pub mod Tables
 pub mod Wanting
 pub mod Taking
+pub mod Promises

@@ -28,13 +28,13 @@ use Rattle.rows.proofs.Matches.{Matches, HomeOk, SideOk, BoxOk, PendingOk, Tic
 use Rattle.rows.proofs.Tied.{Tied, unseen, deeds-stay}
 
 -- the model after so many ticks
-abbrev waited : ℕ → State → State
+abbrev pub waited : ℕ → State → State
 waited d m = record { now = m .now + d; next = m .next; air = m .air; stolen = m .stolen; closed = m .closed; lines = m .lines; wishes = m .wishes; taken = m .taken; made = m .made; asked = m .asked; done = m .done }
 
 at-now : State → ℕ → State
 at-now m x = record { now = x; next = m .next; air = m .air; stolen = m .stolen; closed = m .closed; lines = m .lines; wishes = m .wishes; taken = m .taken; made = m .made; asked = m .asked; done = m .done }
 
-reach-waited : (r : Rules) (es : List Event) (m : State) → Reach r es m → (d : ℕ) → (fs : List Event) × Reach r fs (waited d m)
+pub reach-waited : (r : Rules) (es : List Event) (m : State) → Reach r es m → (d : ℕ) → (fs : List Event) × Reach r fs (waited d m)
 unfolding at-now
 reach-waited r es m h zero = (es, subst (λ (x : ℕ). Reach r es (at-now m x)) (let e : m .now ≡ m .now + 0 = omega arith in e) h)
 reach-waited r es m h (suc d) =
