@@ -60,9 +60,9 @@ there-set xs k a h = go (decLt k (length xs))
     go (yes l) = getD-set-same xs k a Absent l
     go (no l) = absurd (clash (ap (λ (x : Account). isAbsent x) (getD-past xs k Absent (omega arith))) h)
 
-module _ (c : Setting) (n : Naming (c .own)) {p : ℕ} {s : System} {ls : List Wanted} {gs : List Given} {bs : List Begun} {ds : List Deed} {xs : List Taken} (o : Tied c n p s ls gs bs ds xs) where
+module _ (c : Setting) (n : Naming (c .own)) {K : List Closing} {p : ℕ} {s : System} {ls : List Wanted} {gs : List Given} {bs : List Begun} {ds : List Deed} {xs : List Taken} (o : Tied c n K p s ls gs bs ds xs) where
   -- the accounts as they were
-  same-accounts : Tied c n (suc p) (with-home (home-accounts (s .home .accounts) (s .home)) s) ls gs bs ds xs
+  same-accounts : Tied c n K (suc p) (with-home (home-accounts (s .home .accounts) (s .home)) s) ls gs bs ds xs
   same-accounts =
       unseen c n o _
       (matches-home c n s (o .model) _ (o .matches)
@@ -80,7 +80,7 @@ module _ (c : Setting) (n : Naming (c .own)) {p : ℕ} {s : System} {ls : List W
 
   -- a new account
   open-account : (k : ℕ) (key : Key) → OwnKeyTold c n k key → accountOf (s .home .accounts) k ≡ Absent
-      → Tied c n (suc p) (with-home (home-accounts (set (s .home .accounts) k (Open key)) (s .home)) s) ls gs bs ds xs
+      → Tied c n K (suc p) (with-home (home-accounts (set (s .home .accounts) k (Open key)) (s .home)) s) ls gs bs ds xs
   open-account k key told absent =
       unseen c n o _
       (matches-home c n s (o .model) _ (o .matches)
@@ -122,11 +122,11 @@ module _ (c : Setting) (n : Naming (c .own)) {p : ℕ} {s : System} {ls : List W
       closed-so j h (inr e) = o .matches .home .is-closed j (ap (λ (x : Account). isShut x) (sym e) ∙ h)
 
   pub opens-one : (k : ℕ) (key : Key) (w : Bool) → OwnKeyTold c n k key
-      → Tied c n (suc p) (with-home (home-accounts (openedAfter (s .home .accounts) k key w) (s .home)) s) ls gs bs ds xs
+      → Tied c n K (suc p) (with-home (home-accounts (openedAfter (s .home .accounts) k key w) (s .home)) s) ls gs bs ds xs
   opens-one k key w told = go (nobody k) (accountOf (s .home .accounts) k) w refl
     where
       go : (b : Bool) (a : Account) (w : Bool) → accountOf (s .home .accounts) k ≡ a
-          → Tied c n (suc p) (with-home (home-accounts (changed (s .home .accounts) k (Open key) (cond b (Refused Unknown) (openedFrom a w))) (s .home)) s) ls gs bs ds xs
+          → Tied c n K (suc p) (with-home (home-accounts (changed (s .home .accounts) k (Open key) (cond b (Refused Unknown) (openedFrom a w))) (s .home)) s) ls gs bs ds xs
       go true a w e = same-accounts
       go false Absent true e = open-account k key told e
       go false Absent false e = same-accounts
@@ -135,7 +135,7 @@ module _ (c : Setting) (n : Naming (c .own)) {p : ℕ} {s : System} {ls : List W
 
   -- an account is closed
   close-account : (k : ℕ) (key : Key) → nobody k ≡ false → accountOf (s .home .accounts) k ≡ Open key
-      → Tied c n (suc p) (with-home (home-accounts (set (s .home .accounts) k (Closed key)) (s .home)) s) ls gs bs ds xs
+      → Tied c n K (suc p) (with-home (home-accounts (set (s .home .accounts) k (Closed key)) (s .home)) s) ls gs bs ds xs
   unfolding isClosed
   close-account k key somebody is-open =
       record {
@@ -165,6 +165,7 @@ module _ (c : Setting) (n : Naming (c .own)) {p : ℕ} {s : System} {ls : List W
           begun = o .begun;
           deeds = deeds-stay c n ls ls (o .model) t (g .grows) (λ w l h. h) (o .deeds);
           takens = o .takens;
+          since = λ x h. List·Memᴰ·tail (o .since x h);
           low-lines = down-more (λ (w : Wanted). w .place) p (suc p) ls (omega arith) (o .low-lines);
           low-keys = down-more (λ (g : Given). g .place) p (suc p) gs (omega arith) (o .low-keys)
       }
@@ -209,11 +210,11 @@ module _ (c : Setting) (n : Naming (c .own)) {p : ℕ} {s : System} {ls : List W
           let old = o .matches .home .is-closed j (ap (λ (x : Account). isShut x) (sym e) ∙ h) in
           record { closing = old .closing; known = List·Memᴰ·tail (old .known); whose = old .whose; past = old .past }
 
-  pub closes-one : (k : ℕ) (w : Bool) → Tied c n (suc p) (with-home (home-accounts (shutAfter (s .home .accounts) k w) (s .home)) s) ls gs bs ds xs
+  pub closes-one : (k : ℕ) (w : Bool) → Tied c n K (suc p) (with-home (home-accounts (shutAfter (s .home .accounts) k w) (s .home)) s) ls gs bs ds xs
   closes-one k w = go (nobody k) (accountOf (s .home .accounts) k) w refl refl
     where
       go : (b : Bool) (a : Account) (w : Bool) → nobody k ≡ b → accountOf (s .home .accounts) k ≡ a
-          → Tied c n (suc p) (with-home (home-accounts (changed (s .home .accounts) k (closedOf a) (cond b (Refused Unknown) (shutFrom a w))) (s .home)) s) ls gs bs ds xs
+          → Tied c n K (suc p) (with-home (home-accounts (changed (s .home .accounts) k (closedOf a) (cond b (Refused Unknown) (shutFrom a w))) (s .home)) s) ls gs bs ds xs
       go true a w d e = same-accounts
       go false Absent w d e = same-accounts
       go false (Open x) true d e = close-account k x d e

@@ -31,7 +31,7 @@ use Rattle.house_rules.specs.House as house
 use Rattle.house_rules.specs.declared.reply.Reply.{Reply}
 use Rattle.house_rules.specs.declared.reply.Reply.the-variants.{Granted, Refused}
 use Rattle.tickets.specs.Term.{Term, Num, Own, Gets, even}
-use Rattle.tickets.specs.State.{Rules, Key, Asked, Done, State, Safe}
+use Rattle.tickets.specs.State.{Closing, Rules, Key, Asked, Done, State, Safe}
 use Rattle.tickets.specs.Event.{Event, Body, after, Reach, ticket, letterOf, newKey, newDone}
 use Rattle.tickets.specs.Event as events
 use Rattle.tickets.specs.Promise.{Origin, by-reader}
@@ -74,7 +74,7 @@ home-drew c n m h o =
         notes = o .notes
     }
 
-module _ (c : Setting) (n : Naming (c .own)) {p : ℕ} {s : System} {ls : List Wanted} {gs : List Given} {bs : List Begun} {ds : List Deed} {xs : List Taken} (o : Tied c n p s ls gs bs ds xs) where
+module _ (c : Setting) (n : Naming (c .own)) {K : List Closing} {p : ℕ} {s : System} {ls : List Wanted} {gs : List Given} {bs : List Begun} {ds : List Deed} {xs : List Taken} (o : Tied c n K p s ls gs bs ds xs) where
   heard : {x : Term} → Gets (s .air) x → Gets (o .model .air) x
   heard h = gets-more (o .matches .net .air) h
 
@@ -97,7 +97,7 @@ module _ (c : Setting) (n : Naming (c .own)) {p : ℕ} {s : System} {ls : List W
   fresh-is h = h ∙ ap (λ (x : ℕ). even x) (sym (o .matches .net .next))
 
   pub logs-in : (a : ℕ) (l : Login) → HeardLogin c n s a l → 0 < length (c .own)
-      → Tied c n (suc p)
+      → Tied c n K (suc p)
         (with-sent (replySent (n .name) (house.loggedIn (s .home) a l)) (replyDrawn (house.loggedIn (s .home) a l)) (with-home (house.loginAfter (s .home) a l) s))
         ls (keyTold (house.loggedIn (s .home) a l) p (s .home .side .now) (s .stolen) ++ gs) bs ds xs
   logs-in a l h there = go (firstFault (house.loginConditions (s .home) a l)) refl (h .new)
@@ -106,7 +106,7 @@ module _ (c : Setting) (n : Naming (c .own)) {p : ℕ} {s : System} {ls : List W
       R f = unless f (giving (untilOf (s .home)) (s .home .left) (house.loginGiven (s .home) a l)) Refused
 
       granted : firstFault (house.loginConditions (s .home) a l) ≡ None → n .name (freshOf (s .home .left) .key .0) ≡ even (suc (length (s .used)))
-          → Tied c n (suc p)
+          → Tied c n K (suc p)
             (with-sent (replySent (n .name) (R None)) (replyDrawn (R None)) (with-home (house.drew (s .home)) s))
             ls (keyTold (R None) p (s .home .side .now) (s .stolen) ++ gs) bs ds xs
       granted e new =
@@ -141,6 +141,7 @@ module _ (c : Setting) (n : Naming (c .own)) {p : ℕ} {s : System} {ls : List W
               begun = o .begun;
               deeds = deeds-stay c n ls ls (o .model) t (g .grows) (λ w l k. k) (o .deeds);
               takens = λ x k. taken-stays c n gs _ bs bs x (λ y z. List·Memᴰ·tail z) (λ y z. z) (o .takens x k);
+              since = o .since;
               low-lines = down-more (λ (w : Wanted). w .place) p (suc p) ls (omega arith) (o .low-lines);
               low-keys = (omega arith, o .low-keys)
           }
@@ -177,14 +178,14 @@ module _ (c : Setting) (n : Naming (c .own)) {p : ℕ} {s : System} {ls : List W
               cc
 
       go : (f : Option Fault) → firstFault (house.loginConditions (s .home) a l) ≡ f → New c n s (replyDrawn (R f))
-          → Tied c n (suc p)
+          → Tied c n K (suc p)
             (with-sent (replySent (n .name) (R f)) (replyDrawn (R f)) (with-home (unless f (house.drew (s .home)) (λ _. s .home)) s))
             ls (keyTold (R f) p (s .home .side .now) (s .stolen) ++ gs) bs ds xs
       go None e new = granted e new
       go (Some f) e new = unseen c n o _ (matches-home c n s (o .model) (s .home) (o .matches) (o .matches .home))
 
   pub asks-house : (tk : Ticket) (q : Asking) → HeardAtHouse c n s tk q → 0 < length (c .own)
-      → Tied c n (suc p)
+      → Tied c n K (suc p)
         (with-sent (replySent (n .name) (house.answered (s .home) tk q (c .digest (tk .key) (q .number)))) (replyDrawn (house.answered (s .home) tk q (c .digest (tk .key) (q .number))))
         (with-home (house.after (s .home) tk q (c .digest (tk .key) (q .number))) s))
         ls (keyTold (house.answered (s .home) tk q (c .digest (tk .key) (q .number))) p (s .home .side .now) (s .stolen) ++ gs) bs ds xs
@@ -193,11 +194,11 @@ module _ (c : Setting) (n : Naming (c .own)) {p : ℕ} {s : System} {ls : List W
       R : Bool → Option Fault → Reply
       R b f = cond b (unless f (house.granted (s .home) tk q) Refused) (Refused BadInside)
 
-      refused : Tied c n (suc p) (with-home (s .home) s) ls gs bs ds xs
+      refused : Tied c n K (suc p) (with-home (s .home) s) ls gs bs ds xs
       refused = unseen c n o _ (matches-home c n s (o .model) (s .home) (o .matches) (o .matches .home))
 
       granted : firstFault (house.conditions (s .home) tk q (c .digest (tk .key) (q .number))) ≡ None → n .name (freshOf (s .home .left) .key .0) ≡ even (suc (length (s .used)))
-          → Tied c n (suc p)
+          → Tied c n K (suc p)
             (with-sent (replySent (n .name) (house.granted (s .home) tk q)) (replyDrawn (house.granted (s .home) tk q)) (with-home (house.drew (house.noted (s .home) (c .digest (tk .key) (q .number)))) s))
             ls (keyTold (house.granted (s .home) tk q) p (s .home .side .now) (s .stolen) ++ gs) bs ds xs
       granted e new =
@@ -243,6 +244,7 @@ module _ (c : Setting) (n : Naming (c .own)) {p : ℕ} {s : System} {ls : List W
               begun = o .begun;
               deeds = skip (deeds-stay c n ls ls (o .model) t (g .grows) (λ w l k. k) (o .deeds));
               takens = λ x k. taken-stays c n gs _ bs bs x (λ y z. List·Memᴰ·tail z) (λ y z. z) (o .takens x k);
+              since = o .since;
               low-lines = down-more (λ (w : Wanted). w .place) p (suc p) ls (omega arith) (o .low-lines);
               low-keys = (omega arith, o .low-keys)
           }
@@ -298,7 +300,7 @@ module _ (c : Setting) (n : Naming (c .own)) {p : ℕ} {s : System} {ls : List W
               cc
 
       go : (b : Bool) (f : Option Fault) → firstFault (house.conditions (s .home) tk q (c .digest (tk .key) (q .number))) ≡ f → New c n s (replyDrawn (R b f))
-          → Tied c n (suc p)
+          → Tied c n K (suc p)
             (with-sent (replySent (n .name) (R b f)) (replyDrawn (R b f)) (with-home (cond b (unless f (house.drew (house.noted (s .home) (c .digest (tk .key) (q .number)))) (λ _. s .home)) (s .home)) s))
             ls (keyTold (R b f) p (s .home .side .now) (s .stolen) ++ gs) bs ds xs
       go true None e new = granted e new
@@ -306,7 +308,7 @@ module _ (c : Setting) (n : Naming (c .own)) {p : ℕ} {s : System} {ls : List W
       go false f e new = refused
 
   pub asks-service : (v : ℕ) (tk : Ticket) (q : Asking) → HeardAtService c n s v tk q
-      → Tied c n (suc p)
+      → Tied c n K (suc p)
         (with-sent (answerSent (n .name) (service.answered (s .side v) tk q (c .digest (tk .key) (q .number)))) []
         (with-side v (service.after (s .side v) tk q (c .digest (tk .key) (q .number))) s))
         ls gs bs (deedTold (service.answered (s .side v) tk q (c .digest (tk .key) (q .number))) p v (s .side v .side .now) (s .stolen) ++ ds) xs
@@ -316,7 +318,7 @@ module _ (c : Setting) (n : Naming (c .own)) {p : ℕ} {s : System} {ls : List W
       ok = o .matches .side v (h .a-service)
 
       done : firstFault (service.conditions (s .side v) tk q (c .digest (tk .key) (q .number))) ≡ None
-          → Tied c n (suc p)
+          → Tied c n K (suc p)
             (with-sent (answerSent (n .name) (Did (service.deedOf tk q) (service.receiptOf (s .side v) tk q))) [] (with-side v (service.doneBy (s .side v) (c .digest (tk .key) (q .number))) s))
             ls gs bs (deedTold (Did (service.deedOf tk q) (service.receiptOf (s .side v) tk q)) p v (s .side v .side .now) (s .stolen) ++ ds) xs
       done e =
@@ -344,6 +346,7 @@ module _ (c : Setting) (n : Naming (c .own)) {p : ℕ} {s : System} {ls : List W
               begun = o .begun;
               deeds = Among.both (record { same-deed = same-deed; from = line }) (deeds-stay c n ls ls (o .model) t (g .grows) (λ w l k. k) (o .deeds));
               takens = o .takens;
+              since = o .since;
               low-lines = down-more (λ (w : Wanted). w .place) p (suc p) ls (omega arith) (o .low-lines);
               low-keys = down-more (λ (g : Given). g .place) p (suc p) gs (omega arith) (o .low-keys)
           }
@@ -414,7 +417,7 @@ module _ (c : Setting) (n : Naming (c .own)) {p : ℕ} {s : System} {ls : List W
                   }
 
       go : (f : Option Fault) → firstFault (service.conditions (s .side v) tk q (c .digest (tk .key) (q .number))) ≡ f
-          → Tied c n (suc p)
+          → Tied c n K (suc p)
             (with-sent (answerSent (n .name) (unless f (Did (service.deedOf tk q) (service.receiptOf (s .side v) tk q)) NotDone)) []
             (with-side v (unless f (service.doneBy (s .side v) (c .digest (tk .key) (q .number))) (λ _. s .side v)) s))
             ls gs bs (deedTold (unless f (Did (service.deedOf tk q) (service.receiptOf (s .side v) tk q)) NotDone) p v (s .side v .side .now) (s .stolen) ++ ds) xs

@@ -76,3 +76,9 @@ at-one f n here here h e = refl
 at-one f n (here {a = a}) (there p) h e = absurd (let q = down-low f (f a) p (h .1) in omega arith)
 at-one f n (there p) (here {a = a}) h e = absurd (let q = down-low f (f a) p (h .1) in omega arith)
 at-one f n (there {x = x} p) (there q) h e = at-one f (f x) p q (h .1) e
+
+-- those that stand beside one another belong together
+pub at-pair : {A B : Type 0} {R : A → B → Type 0} {xs : List A} {bs : List B} {a : A} {b : B} → Pairs R xs bs → At xs bs a b → R a b
+at-pair Pairs.none q = elim q [ ]
+at-pair (Pairs.both r p) here = r
+at-pair (Pairs.both r p) (there q) = at-pair p q

@@ -104,28 +104,28 @@ module _ (c : Setting) (n : Naming (c .own)) where
           tickets = λ t h. absurd (List·Memᴰ·not-nil h)
       }
 
-  module _ {p : ℕ} {s : System} {ls : List Wanted} {gs : List Given} {bs : List Begun} {ds : List Deed} {xs : List Taken} (o : Tied c n p s ls gs bs ds xs) where
+  module _ {K : List Closing} {p : ℕ} {s : System} {ls : List Wanted} {gs : List Given} {bs : List Begun} {ds : List Deed} {xs : List Taken} (o : Tied c n K p s ls gs bs ds xs) where
     abbrev m : State
     m = o .model
 
-    pub hands-house : (b : Bytes) → Tied c n (suc p) (with-home (home-left (s .home .left ++ b) (s .home)) s) ls gs bs ds xs
+    pub hands-house : (b : Bytes) → Tied c n K (suc p) (with-home (home-left (s .home .left ++ b) (s .home)) s) ls gs bs ds xs
     hands-house b =
         unseen c n o _ (matches-home s (o .model) _ (o .matches) (home-alike (o .model) (s .home) (s .home .left ++ b) (s .home .writes) (o .matches .home)))
 
-    pub hands-service : (v : ℕ) (b : Bytes) → Tied c n (suc p) (with-side v (view (s .side v .side) (s .side v .kept) (s .side v .junk) (s .side v .writes) (s .side v .left ++ b)) s) ls gs bs ds xs
+    pub hands-service : (v : ℕ) (b : Bytes) → Tied c n K (suc p) (with-side v (view (s .side v .side) (s .side v .kept) (s .side v .junk) (s .side v .writes) (s .side v .left ++ b)) s) ls gs bs ds xs
     hands-service v b =
         unseen c n o _ (matches-side s (o .model) v _ (o .matches) (λ z. side-alike (o .model) v (s .side v) (s .side v .left ++ b) (s .side v .writes) (o .matches .side v z)))
 
-    pub hands-reader : (a : ℕ) (b : Bytes) → Tied c n (suc p) (with-box a (box-left (s .box a .left ++ b) (s .box a)) s) ls gs bs ds xs
+    pub hands-reader : (a : ℕ) (b : Bytes) → Tied c n K (suc p) (with-box a (box-left (s .box a .left ++ b) (s .box a)) s) ls gs bs ds xs
     hands-reader a b = unseen c n o _ (matches-box s (o .model) a _ (o .matches) (box-alike (o .model) a (s .box a) (s .box a .left ++ b) (o .matches .box a)))
 
-    pub device-house : (w : Bool) → Tied c n (suc p) (with-home (home-memory (s .home .side) (s .home .kept) (s .home .junk) w (s .home)) s) ls gs bs ds xs
+    pub device-house : (w : Bool) → Tied c n K (suc p) (with-home (home-memory (s .home .side) (s .home .kept) (s .home .junk) w (s .home)) s) ls gs bs ds xs
     device-house w = unseen c n o _ (matches-home s (o .model) _ (o .matches) (home-alike (o .model) (s .home) (s .home .left) w (o .matches .home)))
 
-    pub device-service : (v : ℕ) (w : Bool) → Tied c n (suc p) (with-side v (view (s .side v .side) (s .side v .kept) (s .side v .junk) w (s .side v .left)) s) ls gs bs ds xs
+    pub device-service : (v : ℕ) (w : Bool) → Tied c n K (suc p) (with-side v (view (s .side v .side) (s .side v .kept) (s .side v .junk) w (s .side v .left)) s) ls gs bs ds xs
     device-service v w = unseen c n o _ (matches-side s (o .model) v _ (o .matches) (λ z. side-alike (o .model) v (s .side v) (s .side v .left) w (o .matches .side v z)))
 
-    pub crash-reader : (a : ℕ) → Tied c n (suc p) (with-box a (emptyBox (s .box a .number) (s .box a .key) (s .box a .now) (s .box a .left)) s) ls gs bs ds xs
+    pub crash-reader : (a : ℕ) → Tied c n K (suc p) (with-box a (emptyBox (s .box a .number) (s .box a .key) (s .box a .now) (s .box a .left)) s) ls gs bs ds xs
     crash-reader a = unseen c n o _ (matches-box s (o .model) a _ (o .matches) (box-empty (o .model) a (s .box a) (o .matches .box a)))
 
     past : (d : Done) → List·Memᴰ d (o .model .done) → d .at ≤ o .model .now
@@ -139,7 +139,7 @@ module _ (c : Setting) (n : Naming (c .own)) where
     restart v x es j true a e f new old w left = record { now-is = a; lag-is = e; number-is = f; notes = old }
     restart v x es j false a e f new old w left = record { now-is = a; lag-is = e; number-is = f; notes = new }
 
-    pub crash-service : (v : ℕ) (cut : Cut) → Writing cut (s .side v .side .now) (s .side v .side .wake) → Tied c n (suc p) (with-side v (crashedView cut (s .side v)) s) ls gs bs ds xs
+    pub crash-service : (v : ℕ) (cut : Cut) → Writing cut (s .side v .side .now) (s .side v .side .wake) → Tied c n K (suc p) (with-side v (crashedView cut (s .side v)) s) ls gs bs ds xs
     crash-service v cut w = unseen c n o _ (matches-side s (o .model) v _ (o .matches) (λ z. ok (o .matches .side v z)))
       where
         ok : SideOk c n (o .model) v (s .side v) → SideOk c n (o .model) v (crashedView cut (s .side v))
@@ -150,7 +150,7 @@ module _ (c : Setting) (n : Naming (c .own)) where
             restart v (s .side v .side) (crashedView cut (s .side v) .kept) (crashedView cut (s .side v) .junk)
             (unfit (s .side v .side .lag) (s .side v .side .now) (crashedView cut (s .side v) .kept)) (k .now-is) (k .lag-is) (k .number-is) (both .0) (both .1) (s .side v .writes) (s .side v .left)
 
-    pub crash-house : (cut : Cut) → Writing cut (s .home .side .now) (s .home .side .wake) → Tied c n (suc p) (with-home (crashedHome cut (s .home)) s) ls gs bs ds xs
+    pub crash-house : (cut : Cut) → Writing cut (s .home .side .now) (s .home .side .wake) → Tied c n K (suc p) (with-home (crashedHome cut (s .home)) s) ls gs bs ds xs
     crash-house cut w = unseen c n o _ (matches-home s (o .model) _ (o .matches) ok)
       where
         k : HomeOk c n (o .model) (s .home)
@@ -180,7 +180,7 @@ module _ (c : Setting) (n : Naming (c .own)) where
 
     -- a key is stolen
     pub steals-one : (k : ℕ) → k < length (c .own)
-        → Tied c n (suc p) (record { home = s .home; side = s .side; box = s .box; air = n .name (ownOf (c .own) k .0) ∷ s .air; used = s .used; stolen = n .keyOf k ∷ s .stolen }) ls gs bs ds xs
+        → Tied c n K (suc p) (record { home = s .home; side = s .side; box = s .box; air = n .name (ownOf (c .own) k .0) ∷ s .air; used = s .used; stolen = n .keyOf k ∷ s .stolen }) ls gs bs ds xs
     steals-one k there =
         record {
             events = Event.steals (n .keyOf k) ∷ o .events;
@@ -203,6 +203,7 @@ module _ (c : Setting) (n : Naming (c .own)) where
             begun = o .begun;
             deeds = deeds-stay c n ls ls (o .model) t (g .grows) (λ w l h. h) (o .deeds);
             takens = o .takens;
+            since = o .since;
             low-lines = down-more (λ (w : Wanted). w .place) p (suc p) ls (omega arith) (o .low-lines);
             low-keys = down-more (λ (g : Given). g .place) p (suc p) gs (omega arith) (o .low-keys)
         }

@@ -31,7 +31,7 @@ use Rattle.box_rules.specs.declared.line.Sought.the-variants.{Login, AtHouse}
 use Rattle.box_rules.specs.declared.line.Under.{Under}
 use Rattle.box_rules.specs.declared.line.Under.the-variants.{Own as OwnKey, Session}
 use Rattle.tickets.specs.Term.{Term, Num, Own, Gets, even}
-use Rattle.tickets.specs.State.{Rules, Line, Stage, LoggingIn, AskingHouse, Wish, Key, Asked, Done, State, Safe, isIn}
+use Rattle.tickets.specs.State.{Closing, Rules, Line, Stage, LoggingIn, AskingHouse, Wish, Key, Asked, Done, State, Safe, isIn}
 use Rattle.tickets.specs.Event.{Event, after, Reach, newWish, newAsked}
 use Rattle.tickets.specs.Event as events
 use Rattle.tickets.specs.Promise.{MadeUpon}
@@ -55,7 +55,7 @@ use Rattle.rows.proofs.Quiet.{matches-box}
 use Rattle.rows.proofs.Doing.{at-other}
 use Rattle.rows.proofs.Wanting.{behind, untaken, drawn-is}
 
-module _ (c : Setting) (n : Naming (c .own)) {p : ℕ} {s : System} {ls : List Wanted} {gs : List Given} {bs : List Begun} {ds : List Deed} {xs : List Taken} (o : Tied c n p s ls gs bs ds xs)
+module _ (c : Setting) (n : Naming (c .own)) {K : List Closing} {p : ℕ} {s : System} {ls : List Wanted} {gs : List Given} {bs : List Begun} {ds : List Deed} {xs : List Taken} (o : Tied c n K p s ls gs bs ds xs)
     (a : ℕ) (l : Letter) (alone : Alone c n a) where
   inv : Inv (rulesOf c n) (o .model)
   inv = reached (o .reach)
@@ -137,7 +137,7 @@ module _ (c : Setting) (n : Naming (c .own)) {p : ℕ} {s : System} {ls : List W
 
   abbrev After : Under → Pending → Type 0
   After u q =
-      Tied c n (suc p)
+      Tied c n K (suc p)
       (with-sent (toldSent (n .name) (took q)) (toldDrawn (took q)) (with-box a (chest.asked (letter.stored (letter.settled (s .box a) u l) l tt) (l .key) (l .service) (q .line)) s))
       ls gs (begunTold (took q) p a (s .box a .now) ++ bs) ds (takenTold (took q) p a l (s .stolen) ++ xs)
 
@@ -176,6 +176,7 @@ module _ (c : Setting) (n : Naming (c .own)) {p : ℕ} {s : System} {ls : List W
               (both (record { reader = pend .line .reader; number = sym (drawn-is c n o _ new); at = sym (ok .now-is); stage = refl }) (o .begun));
           deeds = deeds-stay c n ls ls (o .model) t (g .grows) (λ y z k. k) (o .deeds);
           takens = λ y k. takens y (List·Memᴰ·cases-cons k);
+          since = o .since;
           low-lines = down-more (λ (w : Wanted). w .place) p (suc p) ls (omega arith) (o .low-lines);
           low-keys = down-more (λ (g : Given). g .place) p (suc p) gs (omega arith) (o .low-keys)
       }
@@ -306,6 +307,7 @@ module _ (c : Setting) (n : Naming (c .own)) {p : ℕ} {s : System} {ls : List W
               (o .begun);
           deeds = deeds-stay c n ls ls (o .model) t (g .grows) (λ y z k. k) (o .deeds);
           takens = λ y k. takens y (List·Memᴰ·cases-cons k);
+          since = o .since;
           low-lines = down-more (λ (w : Wanted). w .place) p (suc p) ls (omega arith) (o .low-lines);
           low-keys = down-more (λ (g : Given). g .place) p (suc p) gs (omega arith) (o .low-keys)
       }
@@ -406,7 +408,7 @@ module _ (c : Setting) (n : Naming (c .own)) {p : ℕ} {s : System} {ls : List W
       takens y (inr i) = taken-stays c n gs gs bs _ y (λ z i. i) (λ z i. behind (eqb (l .service) 0) _ bs z i) (o .takens y i)
 
   abbrev Answered : Under → Answer → Box → Type 0
-  Answered u r b = Tied c n (suc p) (with-sent (toldSent (n .name) r) (toldDrawn r) (with-box a b s)) ls gs (begunTold r p a (s .box a .now) ++ bs) ds (takenTold r p a l (s .stolen) ++ xs)
+  Answered u r b = Tied c n K (suc p) (with-sent (toldSent (n .name) r) (toldDrawn r) (with-box a b s)) ls gs (begunTold r p a (s .box a .now) ++ bs) ds (takenTold r p a l (s .stolen) ++ xs)
 
   -- a letter belongs to what is under way
   found : (u : Under) (q : Pending) → letter.pendingFor (s .box a) u l ≡ Some q → HeardLetter c n s a u l → New-number → After u q
@@ -430,7 +432,7 @@ module _ (c : Setting) (n : Naming (c .own)) {p : ℕ} {s : System} {ls : List W
   pub takes-so : (u : Under) → HeardLetter c n s a u l → Answered u (letter.taken (s .box a) u l) (letter.takenAfter (s .box a) u l tt)
   takes-so u h = go (firstFault (letter.letterConditions (s .box a) u l)) (letter.pendingFor (s .box a) u l) refl refl (h .new)
     where
-      refused : Tied c n (suc p) (with-box a (s .box a) s) ls gs bs ds xs
+      refused : Tied c n K (suc p) (with-box a (s .box a) s) ls gs bs ds xs
       refused = unseen c n o _ (matches-box c n s (o .model) a (s .box a) (o .matches) ok)
 
       go : (f : Option Fault) (k : Option Pending) → firstFault (letter.letterConditions (s .box a) u l) ≡ f → letter.pendingFor (s .box a) u l ≡ k

@@ -50,7 +50,7 @@ clock-on now to h = go (leb (2 ^ 63) to) (ltb to now) refl h
     go false true e f = absurd (let z : _≡_ {A = ℕ} 0 1 = cc in omega arith)
     go false false e f = ltb-false to now e
 
-module _ (c : Setting) (n : Naming (c .own)) {p : ℕ} {s : System} {ls : List Wanted} {gs : List Given} {bs : List Begun} {ds : List Deed} {xs : List Taken} (o : Tied c n p s ls gs bs ds xs) where
+module _ (c : Setting) (n : Naming (c .own)) {K : List Closing} {p : ℕ} {s : System} {ls : List Wanted} {gs : List Given} {bs : List Begun} {ds : List Deed} {xs : List Taken} (o : Tied c n K p s ls gs bs ds xs) where
   -- nobody goes on
   home-still : (to : ℕ) (k : Ticked) → (k ≡ On → ⊥) → HomeOk c n (o .model) (home-side (setTick (s .home .side) to k) (s .home))
   home-still to On h = absurd (h refl)
@@ -73,7 +73,7 @@ module _ (c : Setting) (n : Naming (c .own)) {p : ℕ} {s : System} {ls : List W
   box-still a to Stopped h = o .matches .box a
 
   still : (to : ℕ) → (clock (o .model .now) to ≡ On → ⊥)
-      → Tied c n (suc p)
+      → Tied c n K (suc p)
         (record {
           home = home-side (onTick (s .home .side) to) (s .home);
           side = λ v. view (onTick (s .side v .side) to) (s .side v .kept) (s .side v .junk) (s .side v .writes) (s .side v .left);
@@ -153,7 +153,7 @@ module _ (c : Setting) (n : Naming (c .own)) {p : ℕ} {s : System} {ls : List W
     box-on a Back e = absurd (let z : _≡_ {A = ℕ} 0 1 = cc in omega arith)
     box-on a Stopped e = absurd (let z : _≡_ {A = ℕ} 0 1 = cc in omega arith)
 
-    goes-on : Tied c n (suc p)
+    goes-on : Tied c n K (suc p)
           (record {
             home = home-side (onTick (s .home .side) to) (s .home);
             side = λ v. view (onTick (s .side v .side) to) (s .side v .kept) (s .side v .junk) (s .side v .writes) (s .side v .left);
@@ -180,12 +180,13 @@ module _ (c : Setting) (n : Naming (c .own)) {p : ℕ} {s : System} {ls : List W
             begun = o .begun;
             deeds = deeds-stay c n ls ls (o .model) (waited (to - o .model .now) (o .model)) grown (λ w l h. h) (o .deeds);
             takens = o .takens;
+            since = o .since;
             low-lines = down-more (λ (w : Wanted). w .place) p (suc p) ls (omega arith) (o .low-lines);
             low-keys = down-more (λ (g : Given). g .place) p (suc p) gs (omega arith) (o .low-keys)
         }
 
   pub tells-all : (to : ℕ)
-      → Tied c n (suc p)
+      → Tied c n K (suc p)
         (record {
           home = home-side (onTick (s .home .side) to) (s .home);
           side = λ v. view (onTick (s .side v .side) to) (s .side v .kept) (s .side v .junk) (s .side v .writes) (s .side v .left);
@@ -197,7 +198,7 @@ module _ (c : Setting) (n : Naming (c .own)) {p : ℕ} {s : System} {ls : List W
   tells-all to = go (clock (o .model .now) to) refl
     where
       go : (k : Ticked) → clock (o .model .now) to ≡ k
-          → Tied c n (suc p)
+          → Tied c n K (suc p)
             (record {
               home = home-side (onTick (s .home .side) to) (s .home);
               side = λ v. view (onTick (s .side v .side) to) (s .side v .kept) (s .side v .junk) (s .side v .writes) (s .side v .left);

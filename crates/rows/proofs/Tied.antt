@@ -7,7 +7,7 @@ use Prim.Native.Nat.{ℕ, suc, _+_, _≤_, _<_}
 use native.Mathlib.Omega.{arith}
 use lib.ListN.{length}
 use Rattle.tickets.specs.Term.{Term, even}
-use Rattle.tickets.specs.State.{Rules, Line, Stage, LoggingIn, AskingHouse, Wish, Key, Asked, Done, State, Safe}
+use Rattle.tickets.specs.State.{Closing, Rules, Line, Stage, LoggingIn, AskingHouse, Wish, Key, Asked, Done, State, Safe}
 use Rattle.tickets.specs.Event.{Event, May, after, Reach}
 use Rattle.tickets.specs.Event
 use Rattle.tickets.specs.Promise.{Answers, AsWanted}
@@ -78,8 +78,8 @@ module _ (c : Setting) (n : Naming (c .own)) where
       → (g : Given) × List·Memᴰ g gs × (g .reader ≡ x .reader) × (g .service ≡ x .service) × (g .key ≡ x .key) × (g .number ≡ x .number) × (g .place < x .place)
         × ((b : Begun) × List·Memᴰ b bs × (b .reader ≡ x .reader) × (b .number ≡ x .number) × (b .at ≤ g .at))
 
-  -- p: how many acts there were
-  pub record Tied (p : ℕ) (s : System) (ls : List Wanted) (gs : List Given) (bs : List Begun) (ds : List Deed) (xs : List Taken) : Type 0 where
+  -- p: how many acts there were; K: closings that are known
+  pub record Tied (K : List Closing) (p : ℕ) (s : System) (ls : List Wanted) (gs : List Given) (bs : List Begun) (ds : List Deed) (xs : List Taken) : Type 0 where
     pub events : List Event
     pub model : State
     pub reach : Reach (rulesOf c n) events model
@@ -89,6 +89,7 @@ module _ (c : Setting) (n : Naming (c .own)) where
     pub begun : Pairs SameBegun bs (model .wishes)
     pub deeds : Among (DeedFact ls model) ds (model .done)
     pub takens : (x : Taken) → List·Memᴰ x xs → TakenFact gs bs x
+    pub since : (x : Closing) → List·Memᴰ x K → List·Memᴰ x (model .closed)
     pub low-lines : Down (λ (w : Wanted). w .place) p ls
     pub low-keys : Down (λ (g : Given). g .place) p gs
 
@@ -119,9 +120,9 @@ module _ (c : Setting) (n : Naming (c .own)) where
       (y .0, f (y .0) (y .1), y .2, y .3, y .4, y .5, y .6, (z .0, g (z .0) (z .1), z .2, z .3, z .4))
 
   -- an act that tells nothing and that the model does not see
-  pub unseen : {p : ℕ} {s : System} {ls : List Wanted} {gs : List Given} {bs : List Begun} {ds : List Deed} {xs : List Taken} (o : Tied p s ls gs bs ds xs)
-      → (t : System) → Matches c n t (o .model) → Tied (suc p) t ls gs bs ds xs
-  unseen {p} {s} {ls} {gs} o t k =
+  pub unseen : {K : List Closing} {p : ℕ} {s : System} {ls : List Wanted} {gs : List Given} {bs : List Begun} {ds : List Deed} {xs : List Taken} (o : Tied K p s ls gs bs ds xs)
+      → (t : System) → Matches c n t (o .model) → Tied K (suc p) t ls gs bs ds xs
+  unseen {K} {p} {s} {ls} {gs} o t k =
       record {
           events = o .events;
           model = o .model;
@@ -132,6 +133,7 @@ module _ (c : Setting) (n : Naming (c .own)) where
           begun = o .begun;
           deeds = o .deeds;
           takens = o .takens;
+          since = o .since;
           low-lines = down-more (λ (w : Wanted). w .place) p (suc p) ls (omega arith) (o .low-lines);
           low-keys = down-more (λ (g : Given). g .place) p (suc p) gs (omega arith) (o .low-keys)
       }

@@ -28,7 +28,7 @@ use Rattle.box_rules.specs.declared.line.Line.{Line as BoxLine}
 use Rattle.box_rules.specs.declared.line.Pass.{Pass}
 use Rattle.box_rules.specs.declared.line.Pending.{Pending}
 use Rattle.tickets.specs.Term.{Term, Num, Own, Gets, even}
-use Rattle.tickets.specs.State.{Rules, Line, Stage, LoggingIn, AskingHouse, Wish, Asked, Done, State, isIn}
+use Rattle.tickets.specs.State.{Closing, Rules, Line, Stage, LoggingIn, AskingHouse, Wish, Asked, Done, State, isIn}
 use Rattle.tickets.specs.Event.{Event, after, Reach, newLine, newWish, newAsked}
 use Rattle.tickets.specs.Event as events
 use Rattle.tickets.proofs.Keep.{Change}
@@ -56,7 +56,7 @@ behind false x xs y h = h
 pub house-what : (v : ℕ) → getD (twoBytes v .bytes) 0 0 * 256 + getD (twoBytes v .bytes) 1 0 ≡ v
 house-what v = two-bytes v
 
-module _ (c : Setting) (n : Naming (c .own)) {p : ℕ} {s : System} {ls : List Wanted} {gs : List Given} {bs : List Begun} {ds : List Deed} {xs : List Taken} (o : Tied c n p s ls gs bs ds xs) where
+module _ (c : Setting) (n : Naming (c .own)) {K : List Closing} {p : ℕ} {s : System} {ls : List Wanted} {gs : List Given} {bs : List Begun} {ds : List Deed} {xs : List Taken} (o : Tied c n K p s ls gs bs ds xs) where
   inv : Inv (rulesOf c n) (o .model)
   inv = reached (o .reach)
 
@@ -91,7 +91,7 @@ module _ (c : Setting) (n : Naming (c .own)) {p : ℕ} {s : System} {ls : List W
 
     -- by no ticket: a login
     login : (v ≡ 0 → ⊥) → n .name (numberOf (s .box a .left) .0) ≡ even (suc (length (s .used)))
-        → Tied c n (suc p)
+        → Tied c n K (suc p)
           (with-sent (toldSent (n .name) (LogsIn (line.loginOf (s .box a)))) (toldDrawn (LogsIn (line.loginOf (s .box a)))) (with-box a (line.loggedIn (line.counted (s .box a)) (line.lineOf (s .box a) v w)) s))
           (told ∷ ls) gs (begunTold (LogsIn (line.loginOf (s .box a))) p a (s .box a .now) ++ bs) ds xs
     login service new =
@@ -116,6 +116,7 @@ module _ (c : Setting) (n : Naming (c .own)) {p : ℕ} {s : System} {ls : List W
             begun = both (record { reader = refl; number = sym (drawn-is _ new); at = sym (ok .now-is); stage = refl }) (o .begun);
             deeds = deeds-stay c n ls (told ∷ ls) (o .model) t (g .grows) (λ y l h. there h) (o .deeds);
             takens = λ x h. taken-stays c n gs gs bs _ x (λ y z. z) (λ y z. List·Memᴰ·tail z) (o .takens x h);
+            since = o .since;
             low-lines = (omega arith, o .low-lines);
             low-keys = down-more (λ (g : Given). g .place) p (suc p) gs (omega arith) (o .low-keys)
         }
@@ -177,7 +178,7 @@ module _ (c : Setting) (n : Naming (c .own)) {p : ℕ} {s : System} {ls : List W
     -- by a ticket for the house: an asking for the house
     by-house : (v ≡ 0 → ⊥) → (q : Pass) → q .service ≡ 0 → (h : Held (Unit {0})) → List·Memᴰ h (s .box a .tickets) → h .pass ≡ q
         → n .name (numberOf (s .box a .left) .0) ≡ even (suc (length (s .used)))
-        → Tied c n (suc p)
+        → Tied c n K (suc p)
           (with-sent (toldSent (n .name) (Asks (q .id) (chest.askingOf (s .box a) (q .key) (q .service) (line.lineOf (s .box a) v w)))) (toldDrawn (Asks (q .id) (chest.askingOf (s .box a) (q .key) (q .service) (line.lineOf (s .box a) v w))))
           (with-box a (chest.asked (line.counted (s .box a)) (q .key) (q .service) (line.lineOf (s .box a) v w)) s))
           (told ∷ ls) gs (begunTold (Asks (q .id) (chest.askingOf (s .box a) (q .key) (q .service) (line.lineOf (s .box a) v w))) p a (s .box a .now) ++ bs) ds xs
@@ -205,6 +206,7 @@ module _ (c : Setting) (n : Naming (c .own)) {p : ℕ} {s : System} {ls : List W
                 (both (record { reader = tick .reader; number = sym (drawn-is _ new); at = sym (ok .now-is); stage = refl }) (o .begun));
             deeds = deeds-stay c n ls (told ∷ ls) (o .model) t (g .grows) (λ y l k. there k) (o .deeds);
             takens = λ x k. taken-stays c n gs gs bs _ x (λ y z. z) (λ y z. behind (eqb (q .service) 0) _ bs y z) (o .takens x k);
+            since = o .since;
             low-lines = (omega arith, o .low-lines);
             low-keys = down-more (λ (g : Given). g .place) p (suc p) gs (omega arith) (o .low-keys)
         }
@@ -285,7 +287,7 @@ module _ (c : Setting) (n : Naming (c .own)) {p : ℕ} {s : System} {ls : List W
     -- by a ticket for the service: an asking to it
     by-service : (v ≡ 0 → ⊥) → (q : Pass) → q .service ≡ v → (h : Held (Unit {0})) → List·Memᴰ h (s .box a .tickets) → h .pass ≡ q
         → n .name (numberOf (s .box a .left) .0) ≡ even (suc (length (s .used)))
-        → Tied c n (suc p)
+        → Tied c n K (suc p)
           (with-sent (toldSent (n .name) (Asks (q .id) (chest.askingOf (s .box a) (q .key) (q .service) (line.lineOf (s .box a) v w)))) (toldDrawn (Asks (q .id) (chest.askingOf (s .box a) (q .key) (q .service) (line.lineOf (s .box a) v w))))
           (with-box a (chest.asked (line.counted (s .box a)) (q .key) (q .service) (line.lineOf (s .box a) v w)) s))
           (told ∷ ls) gs (begunTold (Asks (q .id) (chest.askingOf (s .box a) (q .key) (q .service) (line.lineOf (s .box a) v w))) p a (s .box a .now) ++ bs) ds xs
@@ -313,6 +315,7 @@ module _ (c : Setting) (n : Naming (c .own)) {p : ℕ} {s : System} {ls : List W
                 (o .begun);
             deeds = deeds-stay c n ls (told ∷ ls) (o .model) t (g .grows) (λ y l k. there k) (o .deeds);
             takens = λ x k. taken-stays c n gs gs bs _ x (λ y z. z) (λ y z. behind (eqb (q .service) 0) _ bs y z) (o .takens x k);
+            since = o .since;
             low-lines = (omega arith, o .low-lines);
             low-keys = down-more (λ (g : Given). g .place) p (suc p) gs (omega arith) (o .low-keys)
         }
@@ -381,12 +384,12 @@ module _ (c : Setting) (n : Naming (c .own)) {p : ℕ} {s : System} {ls : List W
             askings y e (inr k) = stays a .askings y k e
 
     pub wants-so : (by : Option ℕ) → Wanting c n s a v by w
-        → Tied c n (suc p)
+        → Tied c n K (suc p)
           (with-sent (toldSent (n .name) (line.wanted (s .box a) v by w)) (toldDrawn (line.wanted (s .box a) v by w)) (with-box a (line.wantedAfter (s .box a) v by w) s))
           (lineTold (line.wanted (s .box a) v by w) told ++ ls) gs (begunTold (line.wanted (s .box a) v by w) p a (s .box a .now) ++ bs) ds xs
     wants-so by h = go (line.unread (s .box a .lines) v w) (firstFault (line.lineConditions (s .box a) v by)) (line.passBy by (s .box a .tickets)) refl refl (h .new)
       where
-        refused : Tied c n (suc p) (with-box a (s .box a) s) ls gs bs ds xs
+        refused : Tied c n K (suc p) (with-box a (s .box a) s) ls gs bs ds xs
         refused = unseen c n o _ (matches-box c n s (o .model) a (s .box a) (o .matches) ok)
 
         right : (f : Option Fault) → firstFault (line.lineConditions (s .box a) v by) ≡ None → (eqb v 0 || line.misfit v (line.passBy by (s .box a .tickets))) ≡ false
@@ -394,7 +397,7 @@ module _ (c : Setting) (n : Naming (c .own)) {p : ℕ} {s : System} {ls : List W
 
         go : (b : Bool) (f : Option Fault) (k : Option Pass) → firstFault (line.lineConditions (s .box a) v by) ≡ f → line.passBy by (s .box a .tickets) ≡ k
             → New c n s (toldDrawn (cond b (Wrong OutOfRange) (unless f (line.sentBy (s .box a) k (line.lineOf (s .box a) v w)) Wrong)))
-            → Tied c n (suc p)
+            → Tied c n K (suc p)
               (with-sent (toldSent (n .name) (cond b (Wrong OutOfRange) (unless f (line.sentBy (s .box a) k (line.lineOf (s .box a) v w)) Wrong)))
               (toldDrawn (cond b (Wrong OutOfRange) (unless f (line.sentBy (s .box a) k (line.lineOf (s .box a) v w)) Wrong)))
               (with-box a (cond b (s .box a) (unless f (line.sentAfter (s .box a) k (line.lineOf (s .box a) v w)) (λ _. s .box a))) s))
@@ -414,7 +417,7 @@ module _ (c : Setting) (n : Naming (c .own)) {p : ℕ} {s : System} {ls : List W
 
             Goal : Type 0
             Goal =
-                Tied c n (suc p)
+                Tied c n K (suc p)
                 (with-sent (toldSent (n .name) (Asks (q .id) (chest.askingOf (s .box a) (q .key) (q .service) (line.lineOf (s .box a) v w)))) (toldDrawn (Asks (q .id) (chest.askingOf (s .box a) (q .key) (q .service) (line.lineOf (s .box a) v w))))
                 (with-box a (chest.asked (line.counted (s .box a)) (q .key) (q .service) (line.lineOf (s .box a) v w)) s))
                 (told ∷ ls) gs (begunTold (Asks (q .id) (chest.askingOf (s .box a) (q .key) (q .service) (line.lineOf (s .box a) v w))) p a (s .box a .now) ++ bs) ds xs
