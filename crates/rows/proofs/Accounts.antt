@@ -67,15 +67,15 @@ module _ (c : Setting) (n : Naming (c .own)) {K : List Closing} {p : ℕ} {s : S
       unseen c n o _
       (matches-home c n s (o .model) _ (o .matches)
       (record {
-          now-is = o .matches .home .now-is;
-          lag-is = o .matches .home .lag-is;
-          number-is = o .matches .home .number-is;
-          life-is = o .matches .home .life-is;
-          key-is = o .matches .home .key-is;
-          accounts = o .matches .home .accounts;
-          is-open = o .matches .home .is-open;
-          is-closed = o .matches .home .is-closed;
-          notes = o .matches .home .notes
+        now-is = o .matches .home .now-is;
+        lag-is = o .matches .home .lag-is;
+        number-is = o .matches .home .number-is;
+        life-is = o .matches .home .life-is;
+        key-is = o .matches .home .key-is;
+        accounts = o .matches .home .accounts;
+        is-open = o .matches .home .is-open;
+        is-closed = o .matches .home .is-closed;
+        notes = o .matches .home .notes;
       }))
 
   -- a new account
@@ -85,15 +85,15 @@ module _ (c : Setting) (n : Naming (c .own)) {K : List Closing} {p : ℕ} {s : S
       unseen c n o _
       (matches-home c n s (o .model) _ (o .matches)
       (record {
-          now-is = o .matches .home .now-is;
-          lag-is = o .matches .home .lag-is;
-          number-is = o .matches .home .number-is;
-          life-is = o .matches .home .life-is;
-          key-is = o .matches .home .key-is;
-          accounts = λ j h. account j h (set-account (s .home .accounts) k j (Open key));
-          is-open = λ j h. opened-so j h (set-account (s .home .accounts) k j (Open key));
-          is-closed = λ j h. closed-so j h (set-account (s .home .accounts) k j (Open key));
-          notes = o .matches .home .notes
+        now-is = o .matches .home .now-is;
+        lag-is = o .matches .home .lag-is;
+        number-is = o .matches .home .number-is;
+        life-is = o .matches .home .life-is;
+        key-is = o .matches .home .key-is;
+        accounts = λ j h. account j h (set-account (s .home .accounts) k j (Open key));
+        is-open = λ j h. opened-so j h (set-account (s .home .accounts) k j (Open key));
+        is-closed = λ j h. closed-so j h (set-account (s .home .accounts) k j (Open key));
+        notes = o .matches .home .notes;
       }))
     where
       account : (j : ℕ) → unknown (set (s .home .accounts) k (Open key)) j ≡ false
@@ -101,8 +101,8 @@ module _ (c : Setting) (n : Naming (c .own)) {K : List Closing} {p : ℕ} {s : S
           → AccountOk c n (set (s .home .accounts) k (Open key)) j
       account j h (inl e) =
           record {
-              there = subst (λ (i : ℕ). i < length (c .own)) (sym (e .0)) (told .there);
-              own = ap (λ (x : Account). keyIn x) (e .1) ∙ told .own ∙ ap (λ (i : ℕ). ownOf (c .own) i) (sym (e .0))
+            there = subst (λ (i : ℕ). i < length (c .own)) (sym (e .0)) (told .there);
+            own = ap (λ (x : Account). keyIn x) (e .1) ∙ told .own ∙ ap (λ (i : ℕ). ownOf (c .own) i) (sym (e .0));
           }
       account j h (inr e) =
           let old = o .matches .home .accounts j (ap (λ (x : Account). nobody j || isAbsent x) (sym e) ∙ h) in
@@ -139,35 +139,35 @@ module _ (c : Setting) (n : Naming (c .own)) {K : List Closing} {p : ℕ} {s : S
   unfolding isClosed
   close-account k key somebody is-open =
       record {
-          events = Event.closes k ∷ o .events;
-          model = t;
-          reach = Event.onward (o .reach) (Event.closes k) tt;
-          matches =
-              record {
-                  net = record { air = o .matches .net .air; next = o .matches .net .next; stolen = o .matches .net .stolen };
-                  home =
-                      record {
-                          now-is = o .matches .home .now-is;
-                          lag-is = o .matches .home .lag-is;
-                          number-is = o .matches .home .number-is;
-                          life-is = o .matches .home .life-is;
-                          key-is = o .matches .home .key-is;
-                          accounts = λ j h. account j h (set-account (s .home .accounts) k j (Closed key));
-                          is-open = λ j h. opened-so j h (either (eqb k j)) (set-account (s .home .accounts) k j (Closed key));
-                          is-closed = λ j h. closed-so j h (set-account (s .home .accounts) k j (Closed key));
-                          notes = notes-later c n (o .model) t 0 (s .home .side .wake) (s .home .junk) (s .home .kept) (omega arith) (λ d h e. h) (o .matches .home .notes)
-                      };
-                  side = λ v z. side-stays c n {m = o .model} {t = t} v (s .side v) refl (λ d h e. h) (o .matches .side v z);
-                  box = λ a. box-stays c n {m = o .model} {t = t} a (s .box a) refl (g .grows) (λ q y z. z .not-taken) (o .matches .box a)
-              };
-          lines = o .lines;
-          keys = o .keys;
-          begun = o .begun;
-          deeds = deeds-stay c n ls ls (o .model) t (g .grows) (λ w l h. h) (o .deeds);
-          takens = o .takens;
-          since = λ x h. List·Memᴰ·tail (o .since x h);
-          low-lines = down-more (λ (w : Wanted). w .place) p (suc p) ls (omega arith) (o .low-lines);
-          low-keys = down-more (λ (g : Given). g .place) p (suc p) gs (omega arith) (o .low-keys)
+        events = Event.closes k ∷ o .events;
+        model = t;
+        reach = Event.onward (o .reach) (Event.closes k) tt;
+        matches =
+            record {
+              net = record { air = o .matches .net .air; next = o .matches .net .next; stolen = o .matches .net .stolen };
+              home =
+                  record {
+                    now-is = o .matches .home .now-is;
+                    lag-is = o .matches .home .lag-is;
+                    number-is = o .matches .home .number-is;
+                    life-is = o .matches .home .life-is;
+                    key-is = o .matches .home .key-is;
+                    accounts = λ j h. account j h (set-account (s .home .accounts) k j (Closed key));
+                    is-open = λ j h. opened-so j h (either (eqb k j)) (set-account (s .home .accounts) k j (Closed key));
+                    is-closed = λ j h. closed-so j h (set-account (s .home .accounts) k j (Closed key));
+                    notes = notes-later c n (o .model) t 0 (s .home .side .wake) (s .home .junk) (s .home .kept) (omega arith) (λ d h e. h) (o .matches .home .notes);
+                  };
+              side = λ v z. side-stays c n {m = o .model} {t = t} v (s .side v) refl (λ d h e. h) (o .matches .side v z);
+              box = λ a. box-stays c n {m = o .model} {t = t} a (s .box a) refl (g .grows) (λ q y z. z .not-taken) (o .matches .box a);
+            };
+        lines = o .lines;
+        keys = o .keys;
+        begun = o .begun;
+        deeds = deeds-stay c n ls ls (o .model) t (g .grows) (λ w l h. h) (o .deeds);
+        takens = o .takens;
+        since = λ x h. List·Memᴰ·tail (o .since x h);
+        low-lines = down-more (λ (w : Wanted). w .place) p (suc p) ls (omega arith) (o .low-lines);
+        low-keys = down-more (λ (g : Given). g .place) p (suc p) gs (omega arith) (o .low-keys);
       }
     where
       t : State
@@ -183,8 +183,8 @@ module _ (c : Setting) (n : Naming (c .own)) {K : List Closing} {p : ℕ} {s : S
           let known : unknown (s .home .accounts) k ≡ false = subst (λ (b : Bool). (b || isAbsent (accountOf (s .home .accounts) k)) ≡ false) (sym somebody) (ap (λ (x : Account). isAbsent x) is-open) in
           let old = o .matches .home .accounts k known in
           record {
-              there = subst (λ (i : ℕ). i < length (c .own)) (sym (e .0)) (old .there);
-              own = ap (λ (x : Account). keyIn x) (e .1) ∙ ap (λ (x : Account). keyIn x) (sym is-open) ∙ old .own ∙ ap (λ (i : ℕ). ownOf (c .own) i) (sym (e .0))
+            there = subst (λ (i : ℕ). i < length (c .own)) (sym (e .0)) (old .there);
+            own = ap (λ (x : Account). keyIn x) (e .1) ∙ ap (λ (x : Account). keyIn x) (sym is-open) ∙ old .own ∙ ap (λ (i : ℕ). ownOf (c .own) i) (sym (e .0));
           }
       account j h (inr e) =
           let old = o .matches .home .accounts j (ap (λ (x : Account). nobody j || isAbsent x) (sym e) ∙ h) in

@@ -63,15 +63,15 @@ at-other {A} P k x f h j old = go (eqb j k) refl
 home-drew : (c : Setting) (n : Naming (c .own)) (m : State) (h : Home) → HomeOk c n m h → HomeOk c n m (house.drew h)
 home-drew c n m h o =
     record {
-        now-is = o .now-is;
-        lag-is = o .lag-is;
-        number-is = o .number-is;
-        life-is = o .life-is;
-        key-is = o .key-is;
-        accounts = o .accounts;
-        is-open = o .is-open;
-        is-closed = o .is-closed;
-        notes = o .notes
+      now-is = o .now-is;
+      lag-is = o .lag-is;
+      number-is = o .number-is;
+      life-is = o .life-is;
+      key-is = o .key-is;
+      accounts = o .accounts;
+      is-open = o .is-open;
+      is-closed = o .is-closed;
+      notes = o .notes;
     }
 
 module _ (c : Setting) (n : Naming (c .own)) {K : List Closing} {p : ℕ} {s : System} {ls : List Wanted} {gs : List Given} {bs : List Begun} {ds : List Deed} {xs : List Taken} (o : Tied c n K p s ls gs bs ds xs) where
@@ -98,8 +98,8 @@ module _ (c : Setting) (n : Naming (c .own)) {K : List Closing} {p : ℕ} {s : S
 
   pub logs-in : (a : ℕ) (l : Login) → HeardLogin c n s a l → 0 < length (c .own)
       → Tied c n K (suc p)
-        (with-sent (replySent (n .name) (house.loggedIn (s .home) a l)) (replyDrawn (house.loggedIn (s .home) a l)) (with-home (house.loginAfter (s .home) a l) s))
-        ls (keyTold (house.loggedIn (s .home) a l) p (s .home .side .now) (s .stolen) ++ gs) bs ds xs
+      (with-sent (replySent (n .name) (house.loggedIn (s .home) a l)) (replyDrawn (house.loggedIn (s .home) a l)) (with-home (house.loginAfter (s .home) a l) s))
+      ls (keyTold (house.loggedIn (s .home) a l) p (s .home .side .now) (s .stolen) ++ gs) bs ds xs
   logs-in a l h there = go (firstFault (house.loginConditions (s .home) a l)) refl (h .new)
     where
       R : Option Fault → Reply
@@ -107,43 +107,43 @@ module _ (c : Setting) (n : Naming (c .own)) {K : List Closing} {p : ℕ} {s : S
 
       granted : firstFault (house.loginConditions (s .home) a l) ≡ None → n .name (freshOf (s .home .left) .key .0) ≡ even (suc (length (s .used)))
           → Tied c n K (suc p)
-            (with-sent (replySent (n .name) (R None)) (replyDrawn (R None)) (with-home (house.drew (s .home)) s))
-            ls (keyTold (R None) p (s .home .side .now) (s .stolen) ++ gs) bs ds xs
+          (with-sent (replySent (n .name) (R None)) (replyDrawn (R None)) (with-home (house.drew (s .home)) s))
+          ls (keyTold (R None) p (s .home .side .now) (s .stolen) ++ gs) bs ds xs
       granted e new =
           record {
-              events = events.grants a (n .name (l .number .0)) (l .tick) ∷ o .events;
-              model = t;
-              reach = events.onward (o .reach) (events.grants a (n .name (l .number .0)) (l .tick)) may;
-              matches =
-                  record {
-                      net =
-                          record {
-                              air = λ x k. given-air x _ _ _ _ tk lt k;
-                              next = let z = o .matches .net .next in omega arith;
-                              stolen = o .matches .net .stolen
-                          };
-                      home = home-stays c n {m = o .model} {t = t} (house.drew (s .home)) refl (λ d k f. k) refl (home-drew c n (o .model) (s .home) (o .matches .home));
-                      side = λ v z. side-stays c n {m = o .model} {t = t} v (s .side v) refl (λ d k f. k) (o .matches .side v z);
-                      box = λ b. box-stays c n {m = o .model} {t = t} b (s .box b) refl (g .grows) (λ q y z. z .not-taken) (o .matches .box b)
-                  };
-              lines = o .lines;
-              keys =
-                  both
-                  (record {
-                      reader = refl;
-                      service = refl;
-                      key = sym (fresh-is new);
-                      number = refl;
-                      at = sym (o .matches .home .now-is);
-                      stolen = o .matches .net .stolen
-                  })
-                  (o .keys);
-              begun = o .begun;
-              deeds = deeds-stay c n ls ls (o .model) t (g .grows) (λ w l k. k) (o .deeds);
-              takens = λ x k. taken-stays c n gs _ bs bs x (λ y z. List·Memᴰ·tail z) (λ y z. z) (o .takens x k);
-              since = o .since;
-              low-lines = down-more (λ (w : Wanted). w .place) p (suc p) ls (omega arith) (o .low-lines);
-              low-keys = (omega arith, o .low-keys)
+            events = events.grants a (n .name (l .number .0)) (l .tick) ∷ o .events;
+            model = t;
+            reach = events.onward (o .reach) (events.grants a (n .name (l .number .0)) (l .tick)) may;
+            matches =
+                record {
+                  net =
+                      record {
+                        air = λ x k. given-air x _ _ _ _ tk lt k;
+                        next = let z = o .matches .net .next in omega arith;
+                        stolen = o .matches .net .stolen;
+                      };
+                  home = home-stays c n {m = o .model} {t = t} (house.drew (s .home)) refl (λ d k f. k) refl (home-drew c n (o .model) (s .home) (o .matches .home));
+                  side = λ v z. side-stays c n {m = o .model} {t = t} v (s .side v) refl (λ d k f. k) (o .matches .side v z);
+                  box = λ b. box-stays c n {m = o .model} {t = t} b (s .box b) refl (g .grows) (λ q y z. z .not-taken) (o .matches .box b);
+                };
+            lines = o .lines;
+            keys =
+                both
+                (record {
+                  reader = refl;
+                  service = refl;
+                  key = sym (fresh-is new);
+                  number = refl;
+                  at = sym (o .matches .home .now-is);
+                  stolen = o .matches .net .stolen;
+                })
+                (o .keys);
+            begun = o .begun;
+            deeds = deeds-stay c n ls ls (o .model) t (g .grows) (λ w l k. k) (o .deeds);
+            takens = λ x k. taken-stays c n gs _ bs bs x (λ y z. List·Memᴰ·tail z) (λ y z. z) (o .takens x k);
+            since = o .since;
+            low-lines = down-more (λ (w : Wanted). w .place) p (suc p) ls (omega arith) (o .low-lines);
+            low-keys = (omega arith, o .low-keys);
           }
         where
           may : events.HearsLogin (rulesOf c n) (o .model) a (n .name (l .number .0)) (l .tick)
@@ -171,7 +171,7 @@ module _ (c : Setting) (n : Naming (c .own)) {K : List Closing} {p : ℕ} {s : S
           lt : letterTerm (n .name) (ownKey (s .home .accounts) a) (record { number = l .number; service = 0; key = freshOf (s .home .left) .key; until = untilOf (s .home) }) ≡ letterOf mk
           lt =
               let i : n .name (ownKey (s .home .accounts) a .0) ≡ Own a =
-                  ap (λ (x : Bytes32). n .name (x .0)) (account .own) ∙ n .of-own a (account .there) ∙ ap (λ (x : ℕ). Own x) (h .reader .alone)
+              ap (λ (x : Bytes32). n .name (x .0)) (account .own) ∙ n .of-own a (account .there) ∙ ap (λ (x : ℕ). Own x) (h .reader .alone)
               in
               let j = fresh-is new in
               let u = until-is in
@@ -179,16 +179,16 @@ module _ (c : Setting) (n : Naming (c .own)) {K : List Closing} {p : ℕ} {s : S
 
       go : (f : Option Fault) → firstFault (house.loginConditions (s .home) a l) ≡ f → New c n s (replyDrawn (R f))
           → Tied c n K (suc p)
-            (with-sent (replySent (n .name) (R f)) (replyDrawn (R f)) (with-home (unless f (house.drew (s .home)) (λ _. s .home)) s))
-            ls (keyTold (R f) p (s .home .side .now) (s .stolen) ++ gs) bs ds xs
+          (with-sent (replySent (n .name) (R f)) (replyDrawn (R f)) (with-home (unless f (house.drew (s .home)) (λ _. s .home)) s))
+          ls (keyTold (R f) p (s .home .side .now) (s .stolen) ++ gs) bs ds xs
       go None e new = granted e new
       go (Some f) e new = unseen c n o _ (matches-home c n s (o .model) (s .home) (o .matches) (o .matches .home))
 
   pub asks-house : (tk : Ticket) (q : Asking) → HeardAtHouse c n s tk q → 0 < length (c .own)
       → Tied c n K (suc p)
-        (with-sent (replySent (n .name) (house.answered (s .home) tk q (c .digest (tk .key) (q .number)))) (replyDrawn (house.answered (s .home) tk q (c .digest (tk .key) (q .number))))
-        (with-home (house.after (s .home) tk q (c .digest (tk .key) (q .number))) s))
-        ls (keyTold (house.answered (s .home) tk q (c .digest (tk .key) (q .number))) p (s .home .side .now) (s .stolen) ++ gs) bs ds xs
+      (with-sent (replySent (n .name) (house.answered (s .home) tk q (c .digest (tk .key) (q .number)))) (replyDrawn (house.answered (s .home) tk q (c .digest (tk .key) (q .number))))
+      (with-home (house.after (s .home) tk q (c .digest (tk .key) (q .number))) s))
+      ls (keyTold (house.answered (s .home) tk q (c .digest (tk .key) (q .number))) p (s .home .side .now) (s .stolen) ++ gs) bs ds xs
   asks-house tk q h there = go (readable q) (firstFault (house.conditions (s .home) tk q (c .digest (tk .key) (q .number)))) refl (h .new)
     where
       R : Bool → Option Fault → Reply
@@ -199,54 +199,54 @@ module _ (c : Setting) (n : Naming (c .own)) {K : List Closing} {p : ℕ} {s : S
 
       granted : firstFault (house.conditions (s .home) tk q (c .digest (tk .key) (q .number))) ≡ None → n .name (freshOf (s .home .left) .key .0) ≡ even (suc (length (s .used)))
           → Tied c n K (suc p)
-            (with-sent (replySent (n .name) (house.granted (s .home) tk q)) (replyDrawn (house.granted (s .home) tk q)) (with-home (house.drew (house.noted (s .home) (c .digest (tk .key) (q .number)))) s))
-            ls (keyTold (house.granted (s .home) tk q) p (s .home .side .now) (s .stolen) ++ gs) bs ds xs
+          (with-sent (replySent (n .name) (house.granted (s .home) tk q)) (replyDrawn (house.granted (s .home) tk q)) (with-home (house.drew (house.noted (s .home) (c .digest (tk .key) (q .number)))) s))
+          ls (keyTold (house.granted (s .home) tk q) p (s .home .side .now) (s .stolen) ++ gs) bs ds xs
       granted e new =
           record {
-              events = ev ∷ o .events;
-              model = t;
-              reach = events.onward (o .reach) ev may;
-              matches =
-                  record {
-                      net =
-                          record {
-                              air = λ x k. given-air x _ _ _ _ tt′ lt k;
-                              next = let z = o .matches .net .next in omega arith;
-                              stolen = o .matches .net .stolen
-                          };
-                      home =
-                          record {
-                              now-is = o .matches .home .now-is;
-                              lag-is = o .matches .home .lag-is;
-                              number-is = o .matches .home .number-is;
-                              life-is = o .matches .home .life-is;
-                              key-is = o .matches .home .key-is;
-                              accounts = o .matches .home .accounts;
-                              is-open = o .matches .home .is-open;
-                              is-closed = λ k f. let x = o .matches .home .is-closed k f in record { closing = x .closing; known = x .known; whose = x .whose; past = x .past };
-                              notes = notes
-                          };
-                      side = λ v z. side-stays c n {m = o .model} {t = t} v (s .side v) refl (λ d k f. other v z d f (List·Memᴰ·cases-cons k)) (o .matches .side v z);
-                      box = λ b. box-stays c n {m = o .model} {t = t} b (s .box b) refl (g .grows) (λ y w z. z .not-taken) (o .matches .box b)
-                  };
-              lines = o .lines;
-              keys =
-                  both
-                  (record {
-                      reader = refl;
-                      service = refl;
-                      key = sym (fresh-is new);
-                      number = refl;
-                      at = sym (o .matches .home .now-is);
-                      stolen = o .matches .net .stolen
-                  })
-                  (o .keys);
-              begun = o .begun;
-              deeds = skip (deeds-stay c n ls ls (o .model) t (g .grows) (λ w l k. k) (o .deeds));
-              takens = λ x k. taken-stays c n gs _ bs bs x (λ y z. List·Memᴰ·tail z) (λ y z. z) (o .takens x k);
-              since = o .since;
-              low-lines = down-more (λ (w : Wanted). w .place) p (suc p) ls (omega arith) (o .low-lines);
-              low-keys = (omega arith, o .low-keys)
+            events = ev ∷ o .events;
+            model = t;
+            reach = events.onward (o .reach) ev may;
+            matches =
+                record {
+                  net =
+                      record {
+                        air = λ x k. given-air x _ _ _ _ tt′ lt k;
+                        next = let z = o .matches .net .next in omega arith;
+                        stolen = o .matches .net .stolen;
+                      };
+                  home =
+                      record {
+                        now-is = o .matches .home .now-is;
+                        lag-is = o .matches .home .lag-is;
+                        number-is = o .matches .home .number-is;
+                        life-is = o .matches .home .life-is;
+                        key-is = o .matches .home .key-is;
+                        accounts = o .matches .home .accounts;
+                        is-open = o .matches .home .is-open;
+                        is-closed = λ k f. let x = o .matches .home .is-closed k f in record { closing = x .closing; known = x .known; whose = x .whose; past = x .past };
+                        notes = notes;
+                      };
+                  side = λ v z. side-stays c n {m = o .model} {t = t} v (s .side v) refl (λ d k f. other v z d f (List·Memᴰ·cases-cons k)) (o .matches .side v z);
+                  box = λ b. box-stays c n {m = o .model} {t = t} b (s .box b) refl (g .grows) (λ y w z. z .not-taken) (o .matches .box b);
+                };
+            lines = o .lines;
+            keys =
+                both
+                (record {
+                  reader = refl;
+                  service = refl;
+                  key = sym (fresh-is new);
+                  number = refl;
+                  at = sym (o .matches .home .now-is);
+                  stolen = o .matches .net .stolen;
+                })
+                (o .keys);
+            begun = o .begun;
+            deeds = skip (deeds-stay c n ls ls (o .model) t (g .grows) (λ w l k. k) (o .deeds));
+            takens = λ x k. taken-stays c n gs _ bs bs x (λ y z. List·Memᴰ·tail z) (λ y z. z) (o .takens x k);
+            since = o .since;
+            low-lines = down-more (λ (w : Wanted). w .place) p (suc p) ls (omega arith) (o .low-lines);
+            low-keys = (omega arith, o .low-keys);
           }
         where
           k : ClearHome (s .home) tk q (c .digest (tk .key) (q .number))
@@ -287,7 +287,7 @@ module _ (c : Setting) (n : Naming (c .own)) {K : List Closing} {p : ℕ} {s : S
           tt′ : ticketTerm (n .name) (ownKey (s .home .accounts) (wanted q)) (record { service = wanted q; reader = tk .reader; key = freshOf (s .home .left) .key; until = untilOf (s .home) }) ≡ ticket (rulesOf c n) (events.bodyOf mk)
           tt′ =
               let i : n .name (ownKey (s .home .accounts) (wanted q) .0) ≡ Own (n .keyOf (wanted q)) =
-                  ap (λ (x : Bytes32). n .name (x .0)) (account .own) ∙ n .of-own (wanted q) (account .there)
+              ap (λ (x : Bytes32). n .name (x .0)) (account .own) ∙ n .of-own (wanted q) (account .there)
               in
               let j = fresh-is new in
               let u = until-is in
@@ -301,17 +301,17 @@ module _ (c : Setting) (n : Naming (c .own)) {K : List Closing} {p : ℕ} {s : S
 
       go : (b : Bool) (f : Option Fault) → firstFault (house.conditions (s .home) tk q (c .digest (tk .key) (q .number))) ≡ f → New c n s (replyDrawn (R b f))
           → Tied c n K (suc p)
-            (with-sent (replySent (n .name) (R b f)) (replyDrawn (R b f)) (with-home (cond b (unless f (house.drew (house.noted (s .home) (c .digest (tk .key) (q .number)))) (λ _. s .home)) (s .home)) s))
-            ls (keyTold (R b f) p (s .home .side .now) (s .stolen) ++ gs) bs ds xs
+          (with-sent (replySent (n .name) (R b f)) (replyDrawn (R b f)) (with-home (cond b (unless f (house.drew (house.noted (s .home) (c .digest (tk .key) (q .number)))) (λ _. s .home)) (s .home)) s))
+          ls (keyTold (R b f) p (s .home .side .now) (s .stolen) ++ gs) bs ds xs
       go true None e new = granted e new
       go true (Some f) e new = refused
       go false f e new = refused
 
   pub asks-service : (v : ℕ) (tk : Ticket) (q : Asking) → HeardAtService c n s v tk q
       → Tied c n K (suc p)
-        (with-sent (answerSent (n .name) (service.answered (s .side v) tk q (c .digest (tk .key) (q .number)))) []
-        (with-side v (service.after (s .side v) tk q (c .digest (tk .key) (q .number))) s))
-        ls gs bs (deedTold (service.answered (s .side v) tk q (c .digest (tk .key) (q .number))) p v (s .side v .side .now) (s .stolen) ++ ds) xs
+      (with-sent (answerSent (n .name) (service.answered (s .side v) tk q (c .digest (tk .key) (q .number)))) []
+      (with-side v (service.after (s .side v) tk q (c .digest (tk .key) (q .number))) s))
+      ls gs bs (deedTold (service.answered (s .side v) tk q (c .digest (tk .key) (q .number))) p v (s .side v .side .now) (s .stolen) ++ ds) xs
   asks-service v tk q h = go (firstFault (service.conditions (s .side v) tk q (c .digest (tk .key) (q .number)))) refl
     where
       ok : SideOk c n (o .model) v (s .side v)
@@ -319,36 +319,36 @@ module _ (c : Setting) (n : Naming (c .own)) {K : List Closing} {p : ℕ} {s : S
 
       done : firstFault (service.conditions (s .side v) tk q (c .digest (tk .key) (q .number))) ≡ None
           → Tied c n K (suc p)
-            (with-sent (answerSent (n .name) (Did (service.deedOf tk q) (service.receiptOf (s .side v) tk q))) [] (with-side v (service.doneBy (s .side v) (c .digest (tk .key) (q .number))) s))
-            ls gs bs (deedTold (Did (service.deedOf tk q) (service.receiptOf (s .side v) tk q)) p v (s .side v .side .now) (s .stolen) ++ ds) xs
+          (with-sent (answerSent (n .name) (Did (service.deedOf tk q) (service.receiptOf (s .side v) tk q))) [] (with-side v (service.doneBy (s .side v) (c .digest (tk .key) (q .number))) s))
+          ls gs bs (deedTold (Did (service.deedOf tk q) (service.receiptOf (s .side v) tk q)) p v (s .side v .side .now) (s .stolen) ++ ds) xs
       done e =
           record {
-              events = ev ∷ o .events;
-              model = t;
-              reach = reach;
-              matches =
-                  record {
-                      net =
-                          record {
-                              air = λ x i. receipt x (List·Memᴰ·cases-cons i);
-                              next = o .matches .net .next;
-                              stolen = o .matches .net .stolen
-                          };
-                      home = home-stays c n {m = o .model} {t = t} (s .home) refl (λ d i f. other 0 (λ z. h .a-service (sym z)) d f (List·Memᴰ·cases-cons i)) refl (o .matches .home);
-                      side =
-                          λ j. at-other (λ (i : ℕ) (x : View). (i ≡ 0 → ⊥) → SideOk c n t i x) v (service.doneBy (s .side v) (c .digest (tk .key) (q .number))) (s .side)
-                          (λ _. record { now-is = ok .now-is; lag-is = ok .lag-is; number-is = ok .number-is; notes = notes }) j
-                          (λ apart z. side-stays c n {m = o .model} {t = t} j (s .side j) refl (λ d i f. other j apart d f (List·Memᴰ·cases-cons i)) (o .matches .side j z));
-                      box = λ b. box-stays c n {m = o .model} {t = t} b (s .box b) refl (g .grows) (λ y w z. z .not-taken) (o .matches .box b)
-                  };
-              lines = o .lines;
-              keys = o .keys;
-              begun = o .begun;
-              deeds = Among.both (record { same-deed = same-deed; from = line }) (deeds-stay c n ls ls (o .model) t (g .grows) (λ w l k. k) (o .deeds));
-              takens = o .takens;
-              since = o .since;
-              low-lines = down-more (λ (w : Wanted). w .place) p (suc p) ls (omega arith) (o .low-lines);
-              low-keys = down-more (λ (g : Given). g .place) p (suc p) gs (omega arith) (o .low-keys)
+            events = ev ∷ o .events;
+            model = t;
+            reach = reach;
+            matches =
+                record {
+                  net =
+                      record {
+                        air = λ x i. receipt x (List·Memᴰ·cases-cons i);
+                        next = o .matches .net .next;
+                        stolen = o .matches .net .stolen;
+                      };
+                  home = home-stays c n {m = o .model} {t = t} (s .home) refl (λ d i f. other 0 (λ z. h .a-service (sym z)) d f (List·Memᴰ·cases-cons i)) refl (o .matches .home);
+                  side =
+                      λ j. at-other (λ (i : ℕ) (x : View). (i ≡ 0 → ⊥) → SideOk c n t i x) v (service.doneBy (s .side v) (c .digest (tk .key) (q .number))) (s .side)
+                      (λ _. record { now-is = ok .now-is; lag-is = ok .lag-is; number-is = ok .number-is; notes = notes }) j
+                      (λ apart z. side-stays c n {m = o .model} {t = t} j (s .side j) refl (λ d i f. other j apart d f (List·Memᴰ·cases-cons i)) (o .matches .side j z));
+                  box = λ b. box-stays c n {m = o .model} {t = t} b (s .box b) refl (g .grows) (λ y w z. z .not-taken) (o .matches .box b);
+                };
+            lines = o .lines;
+            keys = o .keys;
+            begun = o .begun;
+            deeds = Among.both (record { same-deed = same-deed; from = line }) (deeds-stay c n ls ls (o .model) t (g .grows) (λ w l k. k) (o .deeds));
+            takens = o .takens;
+            since = o .since;
+            low-lines = down-more (λ (w : Wanted). w .place) p (suc p) ls (omega arith) (o .low-lines);
+            low-keys = down-more (λ (g : Given). g .place) p (suc p) gs (omega arith) (o .low-keys);
           }
         where
           k : Clear (s .side v) tk q (c .digest (tk .key) (q .number))
@@ -408,18 +408,18 @@ module _ (c : Setting) (n : Naming (c .own)) {K : List Closing} {p : ℕ} {s : S
               from (by-reader y a x) =
                   let i = pairs-at (o .lines) (y .line) (a .from-line) in
                   record {
-                      asked = y;
-                      answers = a;
-                      as-wanted = x;
-                      line = i .0;
-                      beside = i .1;
-                      before = down-low (λ (w : Wanted). w .place) p (i .1) (o .low-lines)
+                    asked = y;
+                    answers = a;
+                    as-wanted = x;
+                    line = i .0;
+                    beside = i .1;
+                    before = down-low (λ (w : Wanted). w .place) p (i .1) (o .low-lines);
                   }
 
       go : (f : Option Fault) → firstFault (service.conditions (s .side v) tk q (c .digest (tk .key) (q .number))) ≡ f
           → Tied c n K (suc p)
-            (with-sent (answerSent (n .name) (unless f (Did (service.deedOf tk q) (service.receiptOf (s .side v) tk q)) NotDone)) []
-            (with-side v (unless f (service.doneBy (s .side v) (c .digest (tk .key) (q .number))) (λ _. s .side v)) s))
-            ls gs bs (deedTold (unless f (Did (service.deedOf tk q) (service.receiptOf (s .side v) tk q)) NotDone) p v (s .side v .side .now) (s .stolen) ++ ds) xs
+          (with-sent (answerSent (n .name) (unless f (Did (service.deedOf tk q) (service.receiptOf (s .side v) tk q)) NotDone)) []
+          (with-side v (unless f (service.doneBy (s .side v) (c .digest (tk .key) (q .number))) (λ _. s .side v)) s))
+          ls gs bs (deedTold (unless f (Did (service.deedOf tk q) (service.receiptOf (s .side v) tk q)) NotDone) p v (s .side v .side .now) (s .stolen) ++ ds) xs
       go None e = done e
       go (Some f) e = unseen c n o _ (matches-side c n s (o .model) v (s .side v) (o .matches) (λ _. ok))

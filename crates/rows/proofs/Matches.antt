@@ -115,26 +115,26 @@ module _ (c : Setting) (n : Naming (c .own)) {m t : State} where
       → HomeOk c n m h → HomeOk c n t h
   home-stays h same old cl o =
       record {
-          now-is = o .now-is ∙ sym same;
-          lag-is = o .lag-is;
-          number-is = o .number-is;
-          life-is = o .life-is;
-          key-is = o .key-is;
-          accounts = o .accounts;
-          is-open = λ k e. subst (λ (x : List Closing). isClosed k x ≡ false) (sym cl) (o .is-open k e);
-          is-closed =
-              λ k e. closed-by-later (omega arith) (λ x y. subst (λ (z : List Closing). List·Memᴰ x z) (sym cl) y) k (o .is-closed k e);
-          notes = notes-later c n m t 0 (h .side .wake) (h .junk) (h .kept) (omega arith) old (o .notes)
+        now-is = o .now-is ∙ sym same;
+        lag-is = o .lag-is;
+        number-is = o .number-is;
+        life-is = o .life-is;
+        key-is = o .key-is;
+        accounts = o .accounts;
+        is-open = λ k e. subst (λ (x : List Closing). isClosed k x ≡ false) (sym cl) (o .is-open k e);
+        is-closed =
+            λ k e. closed-by-later (omega arith) (λ x y. subst (λ (z : List Closing). List·Memᴰ x z) (sym cl) y) k (o .is-closed k e);
+        notes = notes-later c n m t 0 (h .side .wake) (h .junk) (h .kept) (omega arith) old (o .notes);
       }
 
   pub side-stays : (v : ℕ) (w : View) → t .now ≡ m .now → ((d : Done) → List·Memᴰ d (t .done) → d .service ≡ v → List·Memᴰ d (m .done))
       → SideOk c n m v w → SideOk c n t v w
   side-stays v w same old o =
       record {
-          now-is = o .now-is ∙ sym same;
-          lag-is = o .lag-is;
-          number-is = o .number-is;
-          notes = notes-later c n m t v (w .side .wake) (w .junk) (w .kept) (omega arith) old (o .notes)
+        now-is = o .now-is ∙ sym same;
+        lag-is = o .lag-is;
+        number-is = o .number-is;
+        notes = notes-later c n m t v (w .side .wake) (w .junk) (w .kept) (omega arith) old (o .notes);
       }
 
   -- what is under way stays so, if its letter is not the one that is taken
@@ -142,13 +142,13 @@ module _ (c : Setting) (n : Naming (c .own)) {m t : State} where
       → isIn (o .wish .number) (t .taken) ≡ false → PendingOk c n t a g p
   pending-stays a g p f o e =
       record {
-          wish = o .wish;
-          known = f (o .wish) (o .known);
-          at-stage = o .at-stage;
-          number = o .number;
-          key = o .key;
-          not-taken = e;
-          line = o .line
+        wish = o .wish;
+        known = f (o .wish) (o .known);
+        at-stage = o .at-stage;
+        number = o .number;
+        key = o .key;
+        not-taken = e;
+        line = o .line;
       }
 
   pub ticket-stays : (a : ℕ) (h : Held (Unit {0})) → ((q : Asked) → List·Memᴰ q (m .asked) → List·Memᴰ q (t .asked)) → TicketOk c n m a h → TicketOk c n t a h
@@ -160,9 +160,9 @@ module _ (c : Setting) (n : Naming (c .own)) {m t : State} where
       → ((p : Pending) (g : Stage) → (o : PendingOk c n m a g p) → isIn (o .wish .number) (t .taken) ≡ false) → BoxOk c n m a b → BoxOk c n t a b
   box-stays a b same g free o =
       record {
-          now-is = o .now-is ∙ sym same;
-          key-is = o .key-is;
-          logins = λ p h. let x = o .logins p h in pending-stays a LoggingIn p (g .wishes) x (free p LoggingIn x);
-          askings = λ p h e. let x = o .askings p h e in pending-stays a AskingHouse p (g .wishes) x (free p AskingHouse x);
-          tickets = λ h k. ticket-stays a h (g .asked) (o .tickets h k)
+        now-is = o .now-is ∙ sym same;
+        key-is = o .key-is;
+        logins = λ p h. let x = o .logins p h in pending-stays a LoggingIn p (g .wishes) x (free p LoggingIn x);
+        askings = λ p h e. let x = o .askings p h e in pending-stays a AskingHouse p (g .wishes) x (free p AskingHouse x);
+        tickets = λ h k. ticket-stays a h (g .asked) (o .tickets h k);
       }

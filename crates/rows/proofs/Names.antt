@@ -14,7 +14,7 @@ use Rattle.std.specs.shelf.Text.{sameBytes}
 use Rattle.parts.specs.declared.word.Key.{Key}
 use Rattle.tickets.specs.Term.{Term, Num, Own, Drawn, Pair, even}
 use Rattle.tickets.proofs.Bools.{clash, either, even-injective}
-use Rattle.rows.specs.Name.{Bytes, spell, ownName, drawName, named, nameOf, ownOf, Naming}
+use Rattle.rows.specs.Name.{Apart, DrawsNamed, Bytes, spell, ownName, drawName, named, nameOf, ownOf, Naming}
 
 pub same-eq : (x y : Bytes) → sameBytes x y ≡ true → x ≡ y
 same-eq [] [] h = refl
@@ -140,3 +140,33 @@ module _ (own : List Key) (ds : List Bytes) where
 
   pub naming : Naming own
   naming = record { name = nameOf own ds; keyOf = keyName; apart = name-apart; of-own = own-named }
+
+-- a draw that comes later is another
+later-other : (own : List Key) (later earlier : List Bytes) (d x : Bytes) → drawName (later ++ (d ∷ earlier)) x ≡ None → sameBytes x d ≡ true → ⊥
+unfolding drawName
+later-other own [] earlier d x h e = go (sameBytes d x) refl h
+  where
+    go : (b : Bool) → sameBytes d x ≡ b → cond b (Some (suc (length earlier))) (drawName earlier x) ≡ None → ⊥
+    go true f g = let z : _≡_ {A = ℕ} 0 1 = cc in omega arith
+    go false f g = clash (subst (λ (y : Bytes). sameBytes d y ≡ true) (sym (same-eq x d e)) (same-refl d)) f
+later-other own (y ∷ later) earlier d x h e = go (later-other own later earlier d x) (sameBytes y x) h
+  where
+    go : (drawName (later ++ (d ∷ earlier)) x ≡ None → sameBytes x d ≡ true → ⊥) → (b : Bool) → cond b (Some (suc (length (later ++ (d ∷ earlier))))) (drawName (later ++ (d ∷ earlier)) x) ≡ None → ⊥
+    go rest true g = let z : _≡_ {A = ℕ} 0 1 = cc in omega arith
+    go rest false g = rest g e
+
+draw-place : (own : List Key) (later earlier : List Bytes) (d : Bytes) → Apart own (later ++ (d ∷ earlier)) → (drawName (later ++ (d ∷ earlier)) d ≡ Some (suc (length earlier))) × (ownName own 0 d ≡ None)
+unfolding Apart drawName
+draw-place own [] earlier d a = (ap (λ (b : Bool). cond b (Some (suc (length earlier))) (drawName earlier d)) (same-refl d), a .1)
+draw-place own (y ∷ later) earlier d a = go (draw-place own later earlier d (a .2)) (sameBytes y d) refl
+  where
+    go : (drawName (later ++ (d ∷ earlier)) d ≡ Some (suc (length earlier))) × (ownName own 0 d ≡ None) → (b : Bool) → sameBytes y d ≡ b
+        → (cond b (Some (suc (length (later ++ (d ∷ earlier))))) (drawName (later ++ (d ∷ earlier)) d) ≡ Some (suc (length earlier))) × (ownName own 0 d ≡ None)
+    go rest true e = absurd (later-other own later earlier d y (a .0) e)
+    go rest false e = rest
+
+pub draws-named : DrawsNamed
+draws-named own later earlier d a =
+    let h = draw-place own later earlier d a in
+    ap (λ (o : Option ℕ). named Own o (named even (drawName (later ++ (d ∷ earlier)) d) (spell d))) (h .1)
+    ∙ ap (λ (o : Option ℕ). named even o (spell d)) (h .0)

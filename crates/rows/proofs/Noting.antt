@@ -65,11 +65,11 @@ live-from now lag at h = le-leb (now - at) lag (omega arith)
 pub noted-recorded : (c : Setting) (n : Naming (c .own)) (now dg : ℕ) (es : List Entry) (d : Done) → now ≤ d .at + c .lag → Noted c n es d → Noted c n (recorded now (c .lag) dg es) d
 noted-recorded c n now dg es d h o =
     record {
-        key = o .key;
-        number = o .number;
-        key-named = o .key-named;
-        number-named = o .number-named;
-        stands-in = Memᴰ·append-left _ (kept-there (λ (e : Entry). live now (c .lag) (e .tick)) es _ (o .stands-in) (live-from now (c .lag) (d .at) h))
+      key = o .key;
+      number = o .number;
+      key-named = o .key-named;
+      number-named = o .number-named;
+      stands-in = Memᴰ·append-left _ (kept-there (λ (e : Entry). live now (c .lag) (e .tick)) es _ (o .stands-in) (live-from now (c .lag) (d .at) h));
     }
 
 -- a deed that is recorded now is noted
@@ -77,13 +77,13 @@ pub noted-new : (c : Setting) (n : Naming (c .own)) (now : ℕ) (es : List Entry
     → Noted c n (recorded now (c .lag) (c .digest k x) es) d
 noted-new c n now es d k x e f t =
     record {
-        key = k;
-        number = x;
-        key-named = e;
-        number-named = f;
-        stands-in =
-            Memᴰ·append-right (liveOf now (c .lag) es)
-            (List·Memᴰ·head (ap (λ (y : ℕ). record { digest = c .digest k x; tick = y }) t))
+      key = k;
+      number = x;
+      key-named = e;
+      number-named = f;
+      stands-in =
+          Memᴰ·append-right (liveOf now (c .lag) es)
+          (List·Memᴰ·head (ap (λ (y : ℕ). record { digest = c .digest k x; tick = y }) t));
     }
 
 -- what was done before, and could still be asked again, is found, or the side waits
@@ -175,7 +175,7 @@ notes-reread c n m v wake junk es Junk w notes = record { of = λ d h e r. go d 
 pub notes-again : (c : Setting) (n : Naming (c .own)) (m : State) (v wake now lag : ℕ) (junk : Bool) (es : List Entry) (cut : Cut) → now ≡ m .now → lag ≡ c .lag
     → ((d : Done) → List·Memᴰ d (m .done) → d .at ≤ m .now) → Writing cut now wake → Notes c n m v wake junk es
     → Notes c n m v (cond (rejunk now lag cut es junk) (now + lag + 1) 0) (rejunk now lag cut es junk) (reread now lag cut es)
-      × Notes c n m v wake (rejunk now lag cut es junk) (reread now lag cut es)
+    × Notes c n m v wake (rejunk now lag cut es junk) (reread now lag cut es)
 notes-again c n m v wake now lag junk es cut e f past w notes =
     subst (λ (x : ℕ). Both x lag) (sym e) (subst (λ (y : ℕ). Both (m .now) y) (sym f)
     (notes-crash c n m v wake junk es cut past (subst (λ (x : ℕ). Writing cut x wake) e w) notes, notes-reread c n m v wake junk es cut (subst (λ (x : ℕ). Writing cut x wake) e w) notes))

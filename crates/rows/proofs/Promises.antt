@@ -6,7 +6,6 @@ use mathlib.Core.List.{List, [], _∷_, _++_, List·Memᴰ, List·Memᴰ·head, 
 use Prim.Native.Nat.{ℕ, zero, suc, _+_, _≤_, _<_}
 use native.Mathlib.Omega.{arith}
 use lib.ListN.{length, getD, replicate}
-
 use Rattle.parts.specs.declared.account.Account.{Account}
 use Rattle.parts.specs.declared.account.Account.the-variants.{Absent}
 use Rattle.service_rules.specs.Service.{nobody}
@@ -23,7 +22,7 @@ use Rattle.rows.specs.Setting.{Setting, rulesOf}
 use Rattle.rows.specs.System.{System, Act, Possible, run, first}
 use Rattle.rows.specs.System as system
 use Rattle.rows.specs.Row
-use Rattle.rows.specs.Row.{Wanted, Deed, Given, Begun, Taken, SafeDeed, For, Accounted, AskedOnce, Kept, Over, LoggedIn, Fresh, lines, deeds, keys, begun, takens}
+use Rattle.rows.specs.Row.{Wanted, Deed, Given, Begun, Taken, SafeDeed, For, Accounted, AskedOnce, Kept, Over, LoggedIn, Fresh, IsRun, lines, deeds, keys, begun, takens}
 use Rattle.rows.proofs.Names.{spell-apart}
 use Rattle.rows.proofs.Noting.{Notes}
 use Rattle.rows.proofs.Pairs.{Pairs, none, Among, At, Down, at-one, at-first, pairs-at, pairs-of, among-of}
@@ -54,42 +53,42 @@ module _ (c : Setting) (n : Naming (c .own)) where
   tied-first t =
       let reach = reach-waited (rulesOf c n) [] start events.here t in
       record {
-          events = reach .0;
-          model = waited t start;
-          reach = reach .1;
-          matches =
-              record {
-                  net = record { air = λ x h. absurd (List·Memᴰ·not-nil h); next = refl; stolen = refl };
-                  home =
-                      record {
-                          now-is = omega arith;
-                          lag-is = refl;
-                          number-is = refl;
-                          life-is = refl;
-                          key-is = refl;
-                          accounts = λ k h. absurd (clash (or-right (nobody k) (isAbsent (accountOf (replicate 1024 Absent) k)) (ap (λ (x : Account). isAbsent x) (none-absent 1024 k))) h);
-                          is-open = λ k h. refl;
-                          is-closed = λ k h. absurd (clash h (ap (λ (x : Account). isShut x) (none-absent 1024 k)));
-                          notes = record { of = λ d h. absurd (List·Memᴰ·not-nil h) }
-                      };
-                  side = λ v z. record { now-is = omega arith; lag-is = refl; number-is = refl; notes = record { of = λ d h. absurd (List·Memᴰ·not-nil h) } };
-                  box =
-                      λ a. record {
-                          now-is = omega arith;
-                          key-is = refl;
-                          logins = λ q h. absurd (List·Memᴰ·not-nil h);
-                          askings = λ q h. absurd (List·Memᴰ·not-nil h);
-                          tickets = λ q h. absurd (List·Memᴰ·not-nil h)
-                      }
-              };
-          lines = pairs.Pairs.none;
-          keys = pairs.Pairs.none;
-          begun = pairs.Pairs.none;
-          deeds = pairs.Among.none;
-          takens = λ x h. absurd (List·Memᴰ·not-nil h);
-          since = λ x h. absurd (List·Memᴰ·not-nil h);
-          low-lines = tt;
-          low-keys = tt
+        events = reach .0;
+        model = waited t start;
+        reach = reach .1;
+        matches =
+            record {
+              net = record { air = λ x h. absurd (List·Memᴰ·not-nil h); next = refl; stolen = refl };
+              home =
+                  record {
+                    now-is = omega arith;
+                    lag-is = refl;
+                    number-is = refl;
+                    life-is = refl;
+                    key-is = refl;
+                    accounts = λ k h. absurd (clash (or-right (nobody k) (isAbsent (accountOf (replicate 1024 Absent) k)) (ap (λ (x : Account). isAbsent x) (none-absent 1024 k))) h);
+                    is-open = λ k h. refl;
+                    is-closed = λ k h. absurd (clash h (ap (λ (x : Account). isShut x) (none-absent 1024 k)));
+                    notes = record { of = λ d h. absurd (List·Memᴰ·not-nil h) };
+                  };
+              side = λ v z. record { now-is = omega arith; lag-is = refl; number-is = refl; notes = record { of = λ d h. absurd (List·Memᴰ·not-nil h) } };
+              box =
+                  λ a. record {
+                    now-is = omega arith;
+                    key-is = refl;
+                    logins = λ q h. absurd (List·Memᴰ·not-nil h);
+                    askings = λ q h. absurd (List·Memᴰ·not-nil h);
+                    tickets = λ q h. absurd (List·Memᴰ·not-nil h);
+                  };
+            };
+        lines = pairs.Pairs.none;
+        keys = pairs.Pairs.none;
+        begun = pairs.Pairs.none;
+        deeds = pairs.Among.none;
+        takens = λ x h. absurd (List·Memᴰ·not-nil h);
+        since = λ x h. absurd (List·Memᴰ·not-nil h);
+        low-lines = tt;
+        low-keys = tt;
       }
 
   -- one act more
@@ -134,10 +133,10 @@ module _ (c : Setting) (n : Naming (c .own)) {ls : List Wanted} {m : State} wher
   at-head : {es : List Done} (a : Deed) (e : Done) → DeedFact c n ls m a e → (d : Deed) → d ≡ a → SafeDeed c n d → Wit c n ls m (e ∷ es) d
   at-head a e f d i w =
       record {
-          deed = e;
-          stands = List·Memᴰ·head refl;
-          same-deed = subst (λ (x : Deed). SameDeed c n x e) (sym i) (f .same-deed);
-          fact = subst (λ (x : Deed). SafeDeed c n x → LineFact c n ls m x e) (sym i) (f .from) w
+        deed = e;
+        stands = List·Memᴰ·head refl;
+        same-deed = subst (λ (x : Deed). SameDeed c n x e) (sym i) (f .same-deed);
+        fact = subst (λ (x : Deed). SafeDeed c n x → LineFact c n ls m x e) (sym i) (f .from) w;
       }
 
   wit : {ds : List Deed} {es : List Done} → Among (DeedFact c n ls m) ds es → (d : Deed) → List·Memᴰ d ds → SafeDeed c n d → Wit c n ls m es d
@@ -180,21 +179,21 @@ module _ (c : Setting) (n : Naming (c .own)) {K : List Closing} {p : ℕ} {s : S
       let w = x .fact .as-wanted in
       let time = a .in-time in
       record {
-          reader = sym (l .reader) ∙ a .by-reader ∙ x .same-deed .reader;
-          service = sym (l .service) ∙ w .of-service ∙ a .of-service ∙ x .same-deed .service;
-          what = spell-apart _ _ (sym (l .what) ∙ w .in-words ∙ a .in-words ∙ x .same-deed .what);
-          before = x .fact .before;
-          not-later = let i = l .at in let j = w .at-tick in let k = time .not-ahead in let u = x .same-deed .at in omega arith;
-          lately = let i = l .at in let j = w .at-tick in let k = time .not-old in let u = x .same-deed .at in omega arith
+        reader = sym (l .reader) ∙ a .by-reader ∙ x .same-deed .reader;
+        service = sym (l .service) ∙ w .of-service ∙ a .of-service ∙ x .same-deed .service;
+        what = spell-apart _ _ (sym (l .what) ∙ w .in-words ∙ a .in-words ∙ x .same-deed .what);
+        before = x .fact .before;
+        not-later = let i = l .at in let j = w .at-tick in let k = time .not-ahead in let u = x .same-deed .at in omega arith;
+        lately = let i = l .at in let j = w .at-tick in let k = time .not-old in let u = x .same-deed .at in omega arith;
       }
 
   accounted : Accounted c n ls ds₀
   accounted =
       record {
-          lineFor = λ d h w. wit c n (o .deeds) d h w .fact .line;
-          known = λ d h w. at-first (wit c n (o .deeds) d h w .fact .beside);
-          asked = λ d h w. for d (wit c n (o .deeds) d h w);
-          once = λ d e h k w u q. once-wit [] refl (o .deeds) d e h k w u q
+        lineFor = λ d h w. wit c n (o .deeds) d h w .fact .line;
+        known = λ d h w. at-first (wit c n (o .deeds) d h w .fact .beside);
+        asked = λ d h w. for d (wit c n (o .deeds) d h w);
+        once = λ d e h k w u q. once-wit [] refl (o .deeds) d e h k w u q;
       }
 
 module _ (c : Setting) (n : Naming (c .own)) where
@@ -215,20 +214,21 @@ module _ (c : Setting) (n : Naming (c .own)) where
       let o = tied c n t es h in
       let k = pairs-of (o .keys) g known in
       let m =
-          main (rulesOf c n) (o .events) (o .model) (o .reach) .logged-in (k .0) (k .1) (k .2 .service ∙ house)
-          (subst (λ (x : List ℕ). isIn (k .0 .who) x ≡ false) (sym (k .2 .stolen)) (subst (λ (x : ℕ). isIn x (g .stolen) ≡ false) (sym (k .2 .reader)) free))
+      main (rulesOf c n) (o .events) (o .model) (o .reach) .logged-in (k .0) (k .1) (k .2 .service ∙ house)
+      (subst (λ (x : List ℕ). isIn (k .0 .who) x ≡ false) (sym (k .2 .stolen)) (subst (λ (x : ℕ). isIn x (g .stolen) ≡ false) (sym (k .2 .reader)) free))
       in
       let x = m .0 in
       let u = m .1 in
       let b = pairs-at (o .begun) x (u .known) in
-      let time = u .in-time in
-      ( b .0
-      , at-first (b .1)
-      , login-stage (b .0 .login) (sym (b .2 .stage) ∙ u .at-login)
-      , sym (b .2 .reader) ∙ u .by-reader ∙ k .2 .reader
-      , n .apart _ _ (sym (b .2 .number) ∙ sym (u .same-number) ∙ k .2 .number)
-      , (let i = b .2 .at in let j = k .2 .at in let y = time .not-ahead in omega arith)
-      , (let i = b .2 .at in let j = k .2 .at in let y = time .not-old in omega arith))
+      let time = u .in-time in (
+        b .0,
+        at-first (b .1),
+        login-stage (b .0 .login) (sym (b .2 .stage) ∙ u .at-login),
+        sym (b .2 .reader) ∙ u .by-reader ∙ k .2 .reader,
+        n .apart _ _ (sym (b .2 .number) ∙ sym (u .same-number) ∙ k .2 .number),
+        (let i = b .2 .at in let j = k .2 .at in let y = time .not-ahead in omega arith),
+        (let i = b .2 .at in let j = k .2 .at in let y = time .not-old in omega arith),
+      )
     where
       login-stage : (b : Bool) → stageOf b ≡ LoggingIn → b ≡ true
       login-stage true e = refl
@@ -241,18 +241,18 @@ module _ (c : Setting) (n : Naming (c .own)) where
   since-now : {p : ℕ} {s : System} {ls : List Wanted} {gs : List Given} {bs : List Begun} {ds : List Deed} {xs : List Taken} (o : Tied c n [] p s ls gs bs ds xs) → Tied c n (o .model .closed) p s ls gs bs ds xs
   since-now o =
       record {
-          events = o .events;
-          model = o .model;
-          reach = o .reach;
-          matches = o .matches;
-          lines = o .lines;
-          keys = o .keys;
-          begun = o .begun;
-          deeds = o .deeds;
-          takens = o .takens;
-          since = λ x h. h;
-          low-lines = o .low-lines;
-          low-keys = o .low-keys
+        events = o .events;
+        model = o .model;
+        reach = o .reach;
+        matches = o .matches;
+        lines = o .lines;
+        keys = o .keys;
+        begun = o .begun;
+        deeds = o .deeds;
+        takens = o .takens;
+        since = λ x h. h;
+        low-lines = o .low-lines;
+        low-keys = o .low-keys;
       }
 
   back : (t : ℕ) (fs es : List Act) → Possible c n t (fs ++ es) → Possible c n t es
@@ -274,11 +274,28 @@ module _ (c : Setting) (n : Naming (c .own)) where
       let e = among-of (u .deeds) d known in
       let same = e .2 .same-deed in
       let m =
-          main (rulesOf c n) (u .events) (u .model) (u .reach) .over (x .closing) (e .0) (u .since (x .closing) (x .known)) (e .1)
-          (same .reader ∙ reader ∙ sym (x .whose))
-          (subst (λ (y : List ℕ). isIn (n .keyOf (e .0 .service)) y ≡ false) (sym (same .stolen)) (subst (λ (y : ℕ). isIn (n .keyOf y) (d .stolen) ≡ false) (sym (same .service)) free))
+      main (rulesOf c n) (u .events) (u .model) (u .reach) .over (x .closing) (e .0) (u .since (x .closing) (x .known)) (e .1)
+      (same .reader ∙ reader ∙ sym (x .whose))
+      (subst (λ (y : List ℕ). isIn (n .keyOf (e .0 .service)) y ≡ false) (sym (same .stolen)) (subst (λ (y : ℕ). isIn (n .keyOf y) (d .stolen) ≡ false) (sym (same .service)) free))
       in
       let i = same .at in
       let j = x .past in
       let l = o .matches .home .now-is in
       omega arith
+
+  pub is-run : IsRun c n
+  is-run t es h =
+      let o = tied c n t es h in (
+        o .events,
+        o .model,
+        record {
+          reach = o .reach;
+          same-tick = o .matches .home .now-is;
+          same-thefts = o .matches .net .stolen;
+          sent = o .matches .net .air;
+          done =
+              λ d k. let e = among-of (o .deeds) d k in
+              let s = e .2 .same-deed in
+              (e .0, e .1, s .service, s .reader, s .key, s .number, s .what, s .at);
+        },
+      )

@@ -57,34 +57,34 @@ module _ (c : Setting) (n : Naming (c .own)) where
   pub matches-side : (s : System) (m : State) (v : ℕ) (w : View) → Matches c n s m → ((v ≡ 0 → ⊥) → SideOk c n m v w) → Matches c n (with-side v w s) m
   matches-side s m v w o k =
       record {
-          net = record { air = o .net .air; next = o .net .next; stolen = o .net .stolen };
-          home = o .home;
-          side = λ j. at-cases (λ (i : ℕ) (x : View). (i ≡ 0 → ⊥) → SideOk c n m i x) v w (s .side) k j (o .side j);
-          box = o .box
+        net = record { air = o .net .air; next = o .net .next; stolen = o .net .stolen };
+        home = o .home;
+        side = λ j. at-cases (λ (i : ℕ) (x : View). (i ≡ 0 → ⊥) → SideOk c n m i x) v w (s .side) k j (o .side j);
+        box = o .box;
       }
 
   pub matches-box : (s : System) (m : State) (a : ℕ) (b : Box) → Matches c n s m → BoxOk c n m a b → Matches c n (with-box a b s) m
   matches-box s m a b o k =
       record {
-          net = record { air = o .net .air; next = o .net .next; stolen = o .net .stolen };
-          home = o .home;
-          side = o .side;
-          box = λ j. at-cases (λ (i : ℕ) (x : Box). BoxOk c n m i x) a b (s .box) k j (o .box j)
+        net = record { air = o .net .air; next = o .net .next; stolen = o .net .stolen };
+        home = o .home;
+        side = o .side;
+        box = λ j. at-cases (λ (i : ℕ) (x : Box). BoxOk c n m i x) a b (s .box) k j (o .box j);
       }
 
   -- a house, a service or a box that differs in what the model does not see
   home-alike : (m : State) (h : Home) (bs : Bytes) (w : Bool) → HomeOk c n m h → HomeOk c n m (home-left bs (home-memory (h .side) (h .kept) (h .junk) w h))
   home-alike m h bs w o =
       record {
-          now-is = o .now-is;
-          lag-is = o .lag-is;
-          number-is = o .number-is;
-          life-is = o .life-is;
-          key-is = o .key-is;
-          accounts = o .accounts;
-          is-open = o .is-open;
-          is-closed = o .is-closed;
-          notes = o .notes
+        now-is = o .now-is;
+        lag-is = o .lag-is;
+        number-is = o .number-is;
+        life-is = o .life-is;
+        key-is = o .key-is;
+        accounts = o .accounts;
+        is-open = o .is-open;
+        is-closed = o .is-closed;
+        notes = o .notes;
       }
 
   side-alike : (m : State) (v : ℕ) (x : View) (bs : Bytes) (w : Bool) → SideOk c n m v x → SideOk c n m v (view (x .side) (x .kept) (x .junk) w bs)
@@ -97,11 +97,11 @@ module _ (c : Setting) (n : Naming (c .own)) where
   box-empty : (m : State) (a : ℕ) (b : Box) → BoxOk c n m a b → BoxOk c n m a (emptyBox (b .number) (b .key) (b .now) (b .left))
   box-empty m a b o =
       record {
-          now-is = o .now-is;
-          key-is = o .key-is;
-          logins = λ p h. absurd (List·Memᴰ·not-nil h);
-          askings = λ p h. absurd (List·Memᴰ·not-nil h);
-          tickets = λ t h. absurd (List·Memᴰ·not-nil h)
+        now-is = o .now-is;
+        key-is = o .key-is;
+        logins = λ p h. absurd (List·Memᴰ·not-nil h);
+        askings = λ p h. absurd (List·Memᴰ·not-nil h);
+        tickets = λ t h. absurd (List·Memᴰ·not-nil h);
       }
 
   module _ {K : List Closing} {p : ℕ} {s : System} {ls : List Wanted} {gs : List Given} {bs : List Begun} {ds : List Deed} {xs : List Taken} (o : Tied c n K p s ls gs bs ds xs) where
@@ -145,7 +145,7 @@ module _ (c : Setting) (n : Naming (c .own)) where
         ok : SideOk c n (o .model) v (s .side v) → SideOk c n (o .model) v (crashedView cut (s .side v))
         ok k =
             let both =
-                notes-again c n (o .model) v (s .side v .side .wake) (s .side v .side .now) (s .side v .side .lag) (s .side v .junk) (s .side v .kept) cut (k .now-is) (k .lag-is) past w (k .notes)
+            notes-again c n (o .model) v (s .side v .side .wake) (s .side v .side .now) (s .side v .side .lag) (s .side v .junk) (s .side v .kept) cut (k .now-is) (k .lag-is) past w (k .notes)
             in
             restart v (s .side v .side) (crashedView cut (s .side v) .kept) (crashedView cut (s .side v) .junk)
             (unfit (s .side v .side .lag) (s .side v .side .now) (crashedView cut (s .side v) .kept)) (k .now-is) (k .lag-is) (k .number-is) (both .0) (both .1) (s .side v .writes) (s .side v .left)
@@ -159,7 +159,7 @@ module _ (c : Setting) (n : Naming (c .own)) where
         side : SideOk c n (o .model) 0 (crashedView cut (viewOf (s .home)))
         side =
             let both =
-                notes-again c n (o .model) 0 (s .home .side .wake) (s .home .side .now) (s .home .side .lag) (s .home .junk) (s .home .kept) cut (o .matches .home .now-is) (o .matches .home .lag-is) past w (o .matches .home .notes)
+            notes-again c n (o .model) 0 (s .home .side .wake) (s .home .side .now) (s .home .side .lag) (s .home .junk) (s .home .kept) cut (o .matches .home .now-is) (o .matches .home .lag-is) past w (o .matches .home .notes)
             in
             restart 0 (s .home .side) (crashedView cut (viewOf (s .home)) .kept) (crashedView cut (viewOf (s .home)) .junk)
             (unfit (s .home .side .lag) (s .home .side .now) (crashedView cut (viewOf (s .home)) .kept)) (o .matches .home .now-is) (o .matches .home .lag-is) (o .matches .home .number-is) (both .0) (both .1) (s .home .writes) (s .home .left)
@@ -167,15 +167,15 @@ module _ (c : Setting) (n : Naming (c .own)) where
         ok : HomeOk c n (o .model) (crashedHome cut (s .home))
         ok =
             record {
-                now-is = side .now-is;
-                lag-is = side .lag-is;
-                number-is = side .number-is;
-                life-is = o .matches .home .life-is;
-                key-is = o .matches .home .key-is;
-                accounts = o .matches .home .accounts;
-                is-open = o .matches .home .is-open;
-                is-closed = o .matches .home .is-closed;
-                notes = side .notes
+              now-is = side .now-is;
+              lag-is = side .lag-is;
+              number-is = side .number-is;
+              life-is = o .matches .home .life-is;
+              key-is = o .matches .home .key-is;
+              accounts = o .matches .home .accounts;
+              is-open = o .matches .home .is-open;
+              is-closed = o .matches .home .is-closed;
+              notes = side .notes;
             }
 
     -- a key is stolen
@@ -183,29 +183,29 @@ module _ (c : Setting) (n : Naming (c .own)) where
         → Tied c n K (suc p) (record { home = s .home; side = s .side; box = s .box; air = n .name (ownOf (c .own) k .0) ∷ s .air; used = s .used; stolen = n .keyOf k ∷ s .stolen }) ls gs bs ds xs
     steals-one k there =
         record {
-            events = Event.steals (n .keyOf k) ∷ o .events;
-            model = t;
-            reach = Event.onward (o .reach) (Event.steals (n .keyOf k)) tt;
-            matches =
-                record {
-                    net =
-                        record {
-                            air = λ x h. heard x (List·Memᴰ·cases-cons h);
-                            next = o .matches .net .next;
-                            stolen = ap (λ (y : List ℕ). n .keyOf k ∷ y) (o .matches .net .stolen)
-                        };
-                    home = home-stays c n {m = o .model} {t = t} (s .home) refl (λ d h e. h) refl (o .matches .home);
-                    side = λ v z. side-stays c n {m = o .model} {t = t} v (s .side v) refl (λ d h e. h) (o .matches .side v z);
-                    box = λ a. box-stays c n {m = o .model} {t = t} a (s .box a) refl (g .grows) (λ q y z. z .not-taken) (o .matches .box a)
-                };
-            lines = o .lines;
-            keys = o .keys;
-            begun = o .begun;
-            deeds = deeds-stay c n ls ls (o .model) t (g .grows) (λ w l h. h) (o .deeds);
-            takens = o .takens;
-            since = o .since;
-            low-lines = down-more (λ (w : Wanted). w .place) p (suc p) ls (omega arith) (o .low-lines);
-            low-keys = down-more (λ (g : Given). g .place) p (suc p) gs (omega arith) (o .low-keys)
+          events = Event.steals (n .keyOf k) ∷ o .events;
+          model = t;
+          reach = Event.onward (o .reach) (Event.steals (n .keyOf k)) tt;
+          matches =
+              record {
+                net =
+                    record {
+                      air = λ x h. heard x (List·Memᴰ·cases-cons h);
+                      next = o .matches .net .next;
+                      stolen = ap (λ (y : List ℕ). n .keyOf k ∷ y) (o .matches .net .stolen);
+                    };
+                home = home-stays c n {m = o .model} {t = t} (s .home) refl (λ d h e. h) refl (o .matches .home);
+                side = λ v z. side-stays c n {m = o .model} {t = t} v (s .side v) refl (λ d h e. h) (o .matches .side v z);
+                box = λ a. box-stays c n {m = o .model} {t = t} a (s .box a) refl (g .grows) (λ q y z. z .not-taken) (o .matches .box a);
+              };
+          lines = o .lines;
+          keys = o .keys;
+          begun = o .begun;
+          deeds = deeds-stay c n ls ls (o .model) t (g .grows) (λ w l h. h) (o .deeds);
+          takens = o .takens;
+          since = o .since;
+          low-lines = down-more (λ (w : Wanted). w .place) p (suc p) ls (omega arith) (o .low-lines);
+          low-keys = down-more (λ (g : Given). g .place) p (suc p) gs (omega arith) (o .low-keys);
         }
       where
         t : State

@@ -80,13 +80,13 @@ clear w t q d h =
     let p15 = passed _ _ (p14 .1) in
     let here = not-false _ (p10 .0) in
     record {
-        in-time = not-false _ (p6 .0);
-        is-good = p7 .0;
-        is-new = p8 .0;
-        for-me = eqb-true _ _ (and-left (eqb (t .service) (w .side .number)) (eqb (q .service) (w .side .number)) here);
-        asks-me = eqb-true _ _ (and-right (eqb (t .service) (w .side .number)) (eqb (q .service) (w .side .number)) here);
-        awake = ltb-false _ _ (p14 .0);
-        writes = not-false _ (p15 .0)
+      in-time = not-false _ (p6 .0);
+      is-good = p7 .0;
+      is-new = p8 .0;
+      for-me = eqb-true _ _ (and-left (eqb (t .service) (w .side .number)) (eqb (q .service) (w .side .number)) here);
+      asks-me = eqb-true _ _ (and-right (eqb (t .service) (w .side .number)) (eqb (q .service) (w .side .number)) here);
+      awake = ltb-false _ _ (p14 .0);
+      writes = not-false _ (p15 .0);
     }
 
 -- all that the house found right with an asking
@@ -118,17 +118,17 @@ clear-home h t q d f =
     let mine = or-false-left (not (eqb (t .service) 0)) (misled q) (p10 .0) in
     let rest = or-false-right (not (eqb (t .service) 0)) (misled q) (p10 .0) in
     record {
-        known = or-false-left (unknown (h .accounts) (t .reader)) (missing (h .accounts) q) (p2 .0);
-        there = or-false-right (unknown (h .accounts) (t .reader)) (missing (h .accounts) q) (p2 .0);
-        is-open = p5 .0;
-        in-time = not-false _ (p6 .0);
-        is-good = p7 .0;
-        is-new = p8 .0;
-        for-house = eqb-true _ _ (not-false _ mine);
-        asks-house = not-false _ (or-false-left (not (forHouse q)) (eqb (wanted q) 0) rest);
-        a-service = or-false-right (not (forHouse q)) (eqb (wanted q) 0) rest;
-        awake = ltb-false _ _ (p14 .0);
-        writes = not-false _ (p15 .0)
+      known = or-false-left (unknown (h .accounts) (t .reader)) (missing (h .accounts) q) (p2 .0);
+      there = or-false-right (unknown (h .accounts) (t .reader)) (missing (h .accounts) q) (p2 .0);
+      is-open = p5 .0;
+      in-time = not-false _ (p6 .0);
+      is-good = p7 .0;
+      is-new = p8 .0;
+      for-house = eqb-true _ _ (not-false _ mine);
+      asks-house = not-false _ (or-false-left (not (forHouse q)) (eqb (wanted q) 0) rest);
+      a-service = or-false-right (not (forHouse q)) (eqb (wanted q) 0) rest;
+      awake = ltb-false _ _ (p14 .0);
+      writes = not-false _ (p15 .0);
     }
 
 module _ (c : Setting) (n : Naming (c .own)) (m : State) where
@@ -145,15 +145,15 @@ module _ (c : Setting) (n : Naming (c .own)) (m : State) where
       → Does (rulesOf c n) m (bodyOf (n .name) t) (n .name (q .number .0)) (spell (wordsOf (q .what))) (q .tick)
   does-so v w t q service there o h ht hq =
       record {
-          a-service = λ e. service (sym tv ∙ e);
-          hears =
-              record {
-                  ticket-heard = own-ticket v t there tv ht;
-                  asking-heard = asking;
-                  in-time = subst (λ (x : ℕ). Lately 0 x (m .now) (q .tick)) (o .lag-is) (subst (λ (x : ℕ). Lately 0 (w .side .lag) x (q .tick)) (o .now-is) (lately-so _ _ _ (k .in-time)));
-                  is-good = let e = o .now-is in let g = ltb-false _ _ (k .is-good) in omega arith;
-                  is-new = λ b. new (not-new c n m v (w .side .wake) (w .junk) (w .kept) (t .key) (q .number) (o .notes) (subst (λ (x : ℕ). DoneBefore (rulesOf c n) m x (n .name (t .key .0)) (n .name (q .number .0))) tv b))
-              }
+        a-service = λ e. service (sym tv ∙ e);
+        hears =
+            record {
+              ticket-heard = own-ticket v t there tv ht;
+              asking-heard = asking;
+              in-time = subst (λ (x : ℕ). Lately 0 x (m .now) (q .tick)) (o .lag-is) (subst (λ (x : ℕ). Lately 0 (w .side .lag) x (q .tick)) (o .now-is) (lately-so _ _ _ (k .in-time)));
+              is-good = let e = o .now-is in let g = ltb-false _ _ (k .is-good) in omega arith;
+              is-new = λ b. new (not-new c n m v (w .side .wake) (w .junk) (w .kept) (t .key) (q .number) (o .notes) (subst (λ (x : ℕ). DoneBefore (rulesOf c n) m x (n .name (t .key .0)) (n .name (q .number .0))) tv b));
+            };
       }
     where
       k : Clear w t q (c .digest (t .key) (q .number))
@@ -193,12 +193,12 @@ module _ (c : Setting) (n : Naming (c .own)) (m : State) where
       let p6 = passed _ _ (p5 .1) in
       let k = o .accounts a (p2 .0) in
       let name : n .name (ownKey (h .accounts) a .0) ≡ Own a =
-          ap (λ (x : Key). n .name (x .0)) (k .own) ∙ n .of-own a (k .there) ∙ ap (λ (x : ℕ). Own x) alone
+      ap (λ (x : Key). n .name (x .0)) (k .own) ∙ n .of-own a (k .there) ∙ ap (λ (x : ℕ). Own x) alone
       in
       record {
-          heard = subst (λ (x : Term). Gets (m .air) (Term.Lock 4 x (Term.Pair (n .name (l .number .0)) (Num (l .tick))))) name hl;
-          in-time = subst (λ (x : ℕ). Lately 0 x (m .now) (l .tick)) (o .lag-is) (subst (λ (x : ℕ). Lately 0 (h .side .lag) x (l .tick)) (o .now-is) (lately-so _ _ _ (not-false _ (p6 .0))));
-          is-open = o .is-open a (p5 .0)
+        heard = subst (λ (x : Term). Gets (m .air) (Term.Lock 4 x (Term.Pair (n .name (l .number .0)) (Num (l .tick))))) name hl;
+        in-time = subst (λ (x : ℕ). Lately 0 x (m .now) (l .tick)) (o .lag-is) (subst (λ (x : ℕ). Lately 0 (h .side .lag) x (l .tick)) (o .now-is) (lately-so _ _ _ (not-false _ (p6 .0))));
+        is-open = o .is-open a (p5 .0);
       }
 
   -- the service for which a ticket is given has an account
@@ -213,17 +213,17 @@ module _ (c : Setting) (n : Naming (c .own)) (m : State) where
       → Serves (rulesOf c n) m (bodyOf (n .name) t) (n .name (q .number .0)) (wanted q) (q .tick)
   serves-so h t q there o k ht hq =
       record {
-          for-house = k .for-house;
-          a-service = λ e. clash (eq-eqb (wanted q) 0 e) (k .a-service);
-          hears =
-              record {
-                  ticket-heard = own-ticket 0 t there (k .for-house) (subst (λ (x : Key). Gets (m .air) (ticketTerm (n .name) x t)) (o .key-is) ht);
-                  asking-heard = asking;
-                  in-time = subst (λ (x : ℕ). Lately 0 x (m .now) (q .tick)) (o .lag-is) (subst (λ (x : ℕ). Lately 0 (h .side .lag) x (q .tick)) (o .now-is) (lately-so _ _ _ (k .in-time)));
-                  is-good = let e = o .now-is in let g = ltb-false _ _ (k .is-good) in omega arith;
-                  is-new = λ b. new (not-new c n m 0 (h .side .wake) (h .junk) (h .kept) (t .key) (q .number) (o .notes) (subst (λ (x : ℕ). DoneBefore (rulesOf c n) m x (n .name (t .key .0)) (n .name (q .number .0))) (k .for-house) b))
-              };
-          is-open = o .is-open (t .reader) (k .is-open)
+        for-house = k .for-house;
+        a-service = λ e. clash (eq-eqb (wanted q) 0 e) (k .a-service);
+        hears =
+            record {
+              ticket-heard = own-ticket 0 t there (k .for-house) (subst (λ (x : Key). Gets (m .air) (ticketTerm (n .name) x t)) (o .key-is) ht);
+              asking-heard = asking;
+              in-time = subst (λ (x : ℕ). Lately 0 x (m .now) (q .tick)) (o .lag-is) (subst (λ (x : ℕ). Lately 0 (h .side .lag) x (q .tick)) (o .now-is) (lately-so _ _ _ (k .in-time)));
+              is-good = let e = o .now-is in let g = ltb-false _ _ (k .is-good) in omega arith;
+              is-new = λ b. new (not-new c n m 0 (h .side .wake) (h .junk) (h .kept) (t .key) (q .number) (o .notes) (subst (λ (x : ℕ). DoneBefore (rulesOf c n) m x (n .name (t .key .0)) (n .name (q .number .0))) (k .for-house) b));
+            };
+        is-open = o .is-open (t .reader) (k .is-open);
       }
     where
       asking : Gets (m .air) (Event.asking (n .name (t .key .0)) (t .service) (n .name (q .number .0)) (Num (wanted q)) (q .tick))

@@ -62,9 +62,10 @@ without-there n (x ∷ xs) p h = go (without-there n xs p) (sameBytes (x .number
 
     here : (List·Memᴰ p (without n xs) → List·Memᴰ p xs × (p .number .0 ≡ n .0 → ⊥)) → sameBytes (x .number .0) (n .0) ≡ false → (p ≡ x) ⊎ List·Memᴰ p (without n xs)
         → List·Memᴰ p (x ∷ xs) × (p .number .0 ≡ n .0 → ⊥)
-    here rest e (inl f) =
-        ( List·Memᴰ·head f
-        , λ i. clash (subst (λ (y : Bytes). sameBytes (x .number .0) y ≡ true) (ap (λ (y : Pending). y .number .0) (sym f) ∙ i) (same-refl (x .number .0))) e)
+    here rest e (inl f) = (
+      List·Memᴰ·head f,
+      λ i. clash (subst (λ (y : Bytes). sameBytes (x .number .0) y ≡ true) (ap (λ (y : Pending). y .number .0) (sym f) ∙ i) (same-refl (x .number .0))) e,
+    )
     here rest e (inr m) = there (rest m)
 
     go : (List·Memᴰ p (without n xs) → List·Memᴰ p xs × (p .number .0 ≡ n .0 → ⊥)) → (b : Bool) → sameBytes (x .number .0) (n .0) ≡ b
@@ -108,7 +109,7 @@ two-bytes v = two (replicate {A = ℕ} 1024 0) (length-replicate {A = ℕ} 1024 
         let len : 1 < length (set xs 0 (v / 256)) = simp length-set (omega arith) in
         let low : 0 < length xs = omega arith in
         let a : getD (set (set xs 0 (v / 256)) 1 (v % 256)) 0 0 ≡ v / 256 =
-            getD-set-other (set xs 0 (v / 256)) 1 0 (v % 256) 0 (omega arith) ∙ getD-set-same xs 0 (v / 256) 0 low
+        getD-set-other (set xs 0 (v / 256)) 1 0 (v % 256) 0 (omega arith) ∙ getD-set-same xs 0 (v / 256) 0 low
         in
         let b : getD (set (set xs 0 (v / 256)) 1 (v % 256)) 1 0 ≡ v % 256 = getD-set-same (set xs 0 (v / 256)) 1 (v % 256) 0 len in
         omega arith

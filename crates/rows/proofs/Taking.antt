@@ -108,7 +108,7 @@ module _ (c : Setting) (n : Naming (c .own)) {K : List Closing} {p : ℕ} {s : S
         → TakenFact c n gs bs (record { place = p; reader = a; service = l .service; key = l .key .0; number = l .number .0; stolen = s .stolen })
     fresh-fact t ev reach made v ve q known-q stolen reader service key upon since line safe =
         let w : Safe (rulesOf c n) (q .stolen) (q .line .reader) 0 =
-            subst (λ (y : ℕ). Safe (rulesOf c n) (q .stolen) y 0) (sym reader) (subst (λ (y : List ℕ). Safe (rulesOf c n) y a 0) (sym (stolen ∙ o .matches .net .stolen)) safe)
+        subst (λ (y : ℕ). Safe (rulesOf c n) (q .stolen) y 0) (sym reader) (subst (λ (y : List ℕ). Safe (rulesOf c n) y a 0) (sym (stolen ∙ o .matches .net .stolen)) safe)
         in
         let m = main (rulesOf c n) (ev ∷ o .events) t reach .fresh q known-q w in
         let mk = m .0 in
@@ -117,19 +117,22 @@ module _ (c : Setting) (n : Naming (c .own)) {K : List Closing} {p : ℕ} {s : S
         let b = pairs-at (o .begun) x known in
         let g-key : k .0 .key ≡ l .key .0 = n .apart _ _ (sym (k .2 .key) ∙ sym (u .same-key) ∙ key) in
         let g-number : k .0 .number ≡ l .number .0 = n .apart _ _ (sym (k .2 .number) ∙ u .same-number ∙ ap (λ (y : ℕ). even y) upon ∙ sym number) in
-        let b-number : b .0 .number ≡ l .number .0 = n .apart _ _ (sym (b .2 .number) ∙ sym number) in
-        ( k .0
-        , at-first (k .1)
-        , sym (k .2 .reader) ∙ u .for-reader ∙ reader
-        , sym (k .2 .service) ∙ u .for-service ∙ service ∙ ve
-        , g-key
-        , g-number
-        , down-low (λ (g : Given). g .place) p (k .1) (o .low-keys)
-        , ( b .0
-          , at-first (b .1)
-          , sym (b .2 .reader) ∙ line
-          , b-number
-          , (let i = u .not-before in let j = b .2 .at in let h = k .2 .at in omega arith)))
+        let b-number : b .0 .number ≡ l .number .0 = n .apart _ _ (sym (b .2 .number) ∙ sym number) in (
+          k .0,
+          at-first (k .1),
+          sym (k .2 .reader) ∙ u .for-reader ∙ reader,
+          sym (k .2 .service) ∙ u .for-service ∙ service ∙ ve,
+          g-key,
+          g-number,
+          down-low (λ (g : Given). g .place) p (k .1) (o .low-keys),
+          (
+            b .0,
+            at-first (b .1),
+            sym (b .2 .reader) ∙ line,
+            b-number,
+            (let i = u .not-before in let j = b .2 .at in let h = k .2 .at in omega arith),
+          ),
+        )
 
   -- what a box answers when it takes a letter for what is under way
   abbrev took : Pending → Answer
@@ -152,33 +155,33 @@ module _ (c : Setting) (n : Naming (c .own)) {K : List Closing} {p : ℕ} {s : S
   at-login : (q : Pending) → List·Memᴰ q (s .box a .logins) → q .number .0 ≡ l .number .0 → l .service ≡ 0 → Gets (s .air) (letterTerm (n .name) (s .box a .key) l) → New-number → After OwnKey q
   at-login q under same-number house heard-letter new =
       record {
-          events = ev ∷ o .events;
-          model = t;
-          reach = reach;
-          matches =
-              record {
-                  net =
-                      record {
-                          air = λ y k. sent-one t y _ _ word refl k;
-                          next = let z = o .matches .net .next in omega arith;
-                          stolen = o .matches .net .stolen
-                      };
-                  home = home-stays c n {m = o .model} {t = t} (s .home) refl (λ d k f. k) refl (o .matches .home);
-                  side = λ j z. side-stays c n {m = o .model} {t = t} j (s .side j) refl (λ d k f. k) (o .matches .side j z);
-                  box =
-                      λ j. at-other (λ (i : ℕ) (y : Box). BoxOk c n t i y) a _ (s .box) mine j
-                      (λ apart. box-stays c n {m = o .model} {t = t} j (s .box j) refl (g .grows) (λ y st z. other-box x (pend .known) number j apart (pend .line .reader) y st z) (o .matches .box j))
-              };
-          lines = o .lines;
-          keys = o .keys;
-          begun =
-              subst (λ (b : Bool). Pairs (SameBegun c n) (cond b (record { place = p; reader = a; number = numberOf (s .box a .left) .0; at = s .box a .now; login = false } ∷ []) [] ++ bs) (t .wishes)) (sym is-house)
-              (both (record { reader = pend .line .reader; number = sym (drawn-is c n o _ new); at = sym (ok .now-is); stage = refl }) (o .begun));
-          deeds = deeds-stay c n ls ls (o .model) t (g .grows) (λ y z k. k) (o .deeds);
-          takens = λ y k. takens y (List·Memᴰ·cases-cons k);
-          since = o .since;
-          low-lines = down-more (λ (w : Wanted). w .place) p (suc p) ls (omega arith) (o .low-lines);
-          low-keys = down-more (λ (g : Given). g .place) p (suc p) gs (omega arith) (o .low-keys)
+        events = ev ∷ o .events;
+        model = t;
+        reach = reach;
+        matches =
+            record {
+              net =
+                  record {
+                    air = λ y k. sent-one t y _ _ word refl k;
+                    next = let z = o .matches .net .next in omega arith;
+                    stolen = o .matches .net .stolen;
+                  };
+              home = home-stays c n {m = o .model} {t = t} (s .home) refl (λ d k f. k) refl (o .matches .home);
+              side = λ j z. side-stays c n {m = o .model} {t = t} j (s .side j) refl (λ d k f. k) (o .matches .side j z);
+              box =
+                  λ j. at-other (λ (i : ℕ) (y : Box). BoxOk c n t i y) a _ (s .box) mine j
+                  (λ apart. box-stays c n {m = o .model} {t = t} j (s .box j) refl (g .grows) (λ y st z. other-box x (pend .known) number j apart (pend .line .reader) y st z) (o .matches .box j));
+            };
+        lines = o .lines;
+        keys = o .keys;
+        begun =
+            subst (λ (b : Bool). Pairs (SameBegun c n) (cond b (record { place = p; reader = a; number = numberOf (s .box a .left) .0; at = s .box a .now; login = false } ∷ []) [] ++ bs) (t .wishes)) (sym is-house)
+            (both (record { reader = pend .line .reader; number = sym (drawn-is c n o _ new); at = sym (ok .now-is); stage = refl }) (o .begun));
+        deeds = deeds-stay c n ls ls (o .model) t (g .grows) (λ y z k. k) (o .deeds);
+        takens = λ y k. takens y (List·Memᴰ·cases-cons k);
+        since = o .since;
+        low-lines = down-more (λ (w : Wanted). w .place) p (suc p) ls (omega arith) (o .low-lines);
+        low-keys = down-more (λ (g : Given). g .place) p (suc p) gs (omega arith) (o .low-keys);
       }
     where
       is-house : eqb (l .service) 0 ≡ true
@@ -224,10 +227,10 @@ module _ (c : Setting) (n : Naming (c .own)) {K : List Closing} {p : ℕ} {s : S
       word =
           ap (λ (b : Bool). events.asking (n .name (l .key .0)) (l .service) (n .name (numberOf (s .box a .left) .0)) (cond b (Num (getD (cond b (twoBytes (q .line .service)) (q .line .what) .bytes) 0 0 * 256 + getD (cond b (twoBytes (q .line .service)) (q .line .what) .bytes) 1 0)) (spell (wordsOf (cond b (twoBytes (q .line .service)) (q .line .what))))) (cond b (s .box a .now) (q .line .tick))) is-house
           ∙ (let j = drawn-is c n o _ new in
-            let k = ok .now-is in
-            let u = two-bytes (q .line .service) in
-            let v = pend .line .service in
-            cc)
+          let k = ok .now-is in
+          let u = two-bytes (q .line .service) in
+          let v = pend .line .service in
+          cc)
 
       pending : Pending
       pending = record { number = numberOf (s .box a .left); key = l .key; asks = l .service; line = q .line }
@@ -235,13 +238,13 @@ module _ (c : Setting) (n : Naming (c .own)) {K : List Closing} {p : ℕ} {s : S
       begun-now : PendingOk c n t a AskingHouse pending
       begun-now =
           record {
-              wish = newWish (o .model) (x .line) AskingHouse (n .name (l .key .0));
-              known = List·Memᴰ·head refl;
-              at-stage = refl;
-              number = drawn-is c n o _ new;
-              key = refl;
-              not-taken = new-untaken x (pend .known) number;
-              line = pend .line
+            wish = newWish (o .model) (x .line) AskingHouse (n .name (l .key .0));
+            known = List·Memᴰ·head refl;
+            at-stage = refl;
+            number = drawn-is c n o _ new;
+            key = refl;
+            not-taken = new-untaken x (pend .known) number;
+            line = pend .line;
           }
 
       login-no-asking : x .stage ≡ AskingHouse → ⊥
@@ -250,11 +253,11 @@ module _ (c : Setting) (n : Naming (c .own)) {K : List Closing} {p : ℕ} {s : S
       mine : BoxOk c n t a (chest.asked (letter.stored (letter.settled (s .box a) OwnKey l) l tt) (l .key) (l .service) (q .line))
       mine =
           record {
-              now-is = ok .now-is;
-              key-is = ok .key-is;
-              logins = λ y k. logins y (without-there (l .number) (s .box a .logins) y k);
-              askings = λ y k e. askings y e (put-cases _ _ y k);
-              tickets = λ y k. tickets y (put-cases _ _ y k)
+            now-is = ok .now-is;
+            key-is = ok .key-is;
+            logins = λ y k. logins y (without-there (l .number) (s .box a .logins) y k);
+            askings = λ y k e. askings y e (put-cases _ _ y k);
+            tickets = λ y k. tickets y (put-cases _ _ y k);
           }
         where
           logins : (y : Pending) → List·Memᴰ y (s .box a .logins) × (y .number .0 ≡ l .number .0 → ⊥) → PendingOk c n t a LoggingIn y
@@ -283,33 +286,33 @@ module _ (c : Setting) (n : Naming (c .own)) {K : List Closing} {p : ℕ} {s : S
       → Gets (s .air) (letterTerm (n .name) k l) → New-number → After (Session k) q
   at-asking k q under asks same-key same-number same-service heard-letter new =
       record {
-          events = ev ∷ o .events;
-          model = t;
-          reach = reach;
-          matches =
-              record {
-                  net =
-                      record {
-                          air = λ y k. sent-one t y _ _ word refl k;
-                          next = let z = o .matches .net .next in omega arith;
-                          stolen = o .matches .net .stolen
-                      };
-                  home = home-stays c n {m = o .model} {t = t} (s .home) refl (λ d k f. k) refl (o .matches .home);
-                  side = λ j z. side-stays c n {m = o .model} {t = t} j (s .side j) refl (λ d k f. k) (o .matches .side j z);
-                  box =
-                      λ j. at-other (λ (i : ℕ) (y : Box). BoxOk c n t i y) a _ (s .box) mine j
-                      (λ apart. box-stays c n {m = o .model} {t = t} j (s .box j) refl (g .grows) (λ y st z. other-box x (pend .known) number j apart (pend .line .reader) y st z) (o .matches .box j))
-              };
-          lines = o .lines;
-          keys = o .keys;
-          begun =
-              subst (λ (b : Bool). Pairs (SameBegun c n) (cond b (record { place = p; reader = a; number = numberOf (s .box a .left) .0; at = s .box a .now; login = false } ∷ []) [] ++ bs) (t .wishes)) (sym no-house)
-              (o .begun);
-          deeds = deeds-stay c n ls ls (o .model) t (g .grows) (λ y z k. k) (o .deeds);
-          takens = λ y k. takens y (List·Memᴰ·cases-cons k);
-          since = o .since;
-          low-lines = down-more (λ (w : Wanted). w .place) p (suc p) ls (omega arith) (o .low-lines);
-          low-keys = down-more (λ (g : Given). g .place) p (suc p) gs (omega arith) (o .low-keys)
+        events = ev ∷ o .events;
+        model = t;
+        reach = reach;
+        matches =
+            record {
+              net =
+                  record {
+                    air = λ y k. sent-one t y _ _ word refl k;
+                    next = let z = o .matches .net .next in omega arith;
+                    stolen = o .matches .net .stolen;
+                  };
+              home = home-stays c n {m = o .model} {t = t} (s .home) refl (λ d k f. k) refl (o .matches .home);
+              side = λ j z. side-stays c n {m = o .model} {t = t} j (s .side j) refl (λ d k f. k) (o .matches .side j z);
+              box =
+                  λ j. at-other (λ (i : ℕ) (y : Box). BoxOk c n t i y) a _ (s .box) mine j
+                  (λ apart. box-stays c n {m = o .model} {t = t} j (s .box j) refl (g .grows) (λ y st z. other-box x (pend .known) number j apart (pend .line .reader) y st z) (o .matches .box j));
+            };
+        lines = o .lines;
+        keys = o .keys;
+        begun =
+            subst (λ (b : Bool). Pairs (SameBegun c n) (cond b (record { place = p; reader = a; number = numberOf (s .box a .left) .0; at = s .box a .now; login = false } ∷ []) [] ++ bs) (t .wishes)) (sym no-house)
+            (o .begun);
+        deeds = deeds-stay c n ls ls (o .model) t (g .grows) (λ y z k. k) (o .deeds);
+        takens = λ y k. takens y (List·Memᴰ·cases-cons k);
+        since = o .since;
+        low-lines = down-more (λ (w : Wanted). w .place) p (suc p) ls (omega arith) (o .low-lines);
+        low-keys = down-more (λ (g : Given). g .place) p (suc p) gs (omega arith) (o .low-keys);
       }
     where
       pend : PendingOk c n (o .model) a AskingHouse q
@@ -365,10 +368,10 @@ module _ (c : Setting) (n : Naming (c .own)) {K : List Closing} {p : ℕ} {s : S
       word =
           ap (λ (b : Bool). events.asking (n .name (l .key .0)) (l .service) (n .name (numberOf (s .box a .left) .0)) (cond b (Num (getD (cond b (twoBytes (q .line .service)) (q .line .what) .bytes) 0 0 * 256 + getD (cond b (twoBytes (q .line .service)) (q .line .what) .bytes) 1 0)) (spell (wordsOf (cond b (twoBytes (q .line .service)) (q .line .what))))) (cond b (s .box a .now) (q .line .tick))) no-house
           ∙ (let j = drawn-is c n o _ new in
-            let u = service-is in
-            let v = pend .line .what in
-            let w = pend .line .at in
-            cc)
+          let u = service-is in
+          let v = pend .line .what in
+          let w = pend .line .at in
+          cc)
 
       pending : Pending
       pending = record { number = numberOf (s .box a .left); key = l .key; asks = l .service; line = q .line }
@@ -379,11 +382,11 @@ module _ (c : Setting) (n : Naming (c .own)) {K : List Closing} {p : ℕ} {s : S
       mine : BoxOk c n t a (chest.asked (letter.stored (letter.settled (s .box a) (Session k) l) l tt) (l .key) (l .service) (q .line))
       mine =
           record {
-              now-is = ok .now-is;
-              key-is = ok .key-is;
-              logins = λ y i. let z = ok .logins y i in pending-stays c n {m = o .model} {t = t} a LoggingIn y (g .grows .wishes) z (other-stage x (pend .known) number y LoggingIn z asking-no-login);
-              askings = λ y i e. askings y e (put-cases _ _ y i);
-              tickets = λ y i. tickets y (put-cases _ _ y i)
+            now-is = ok .now-is;
+            key-is = ok .key-is;
+            logins = λ y i. let z = ok .logins y i in pending-stays c n {m = o .model} {t = t} a LoggingIn y (g .grows .wishes) z (other-stage x (pend .known) number y LoggingIn z asking-no-login);
+            askings = λ y i e. askings y e (put-cases _ _ y i);
+            tickets = λ y i. tickets y (put-cases _ _ y i);
           }
         where
           left : (y : Pending) → y .asks ≡ 0 → List·Memᴰ y (s .box a .askings) × (y .number .0 ≡ l .number .0 → ⊥) → PendingOk c n t a AskingHouse y

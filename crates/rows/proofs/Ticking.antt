@@ -74,21 +74,21 @@ module _ (c : Setting) (n : Naming (c .own)) {K : List Closing} {p : ℕ} {s : S
 
   still : (to : ℕ) → (clock (o .model .now) to ≡ On → ⊥)
       → Tied c n K (suc p)
-        (record {
-          home = home-side (onTick (s .home .side) to) (s .home);
-          side = λ v. view (onTick (s .side v .side) to) (s .side v .kept) (s .side v .junk) (s .side v .writes) (s .side v .left);
-          box = λ a. toldBox (s .box a) to (clock (s .box a .now) to);
-          air = s .air;
-          used = s .used;
-          stolen = s .stolen
-        }) ls gs bs ds xs
+      (record {
+        home = home-side (onTick (s .home .side) to) (s .home);
+        side = λ v. view (onTick (s .side v .side) to) (s .side v .kept) (s .side v .junk) (s .side v .writes) (s .side v .left);
+        box = λ a. toldBox (s .box a) to (clock (s .box a .now) to);
+        air = s .air;
+        used = s .used;
+        stolen = s .stolen;
+      }) ls gs bs ds xs
   still to off =
       unseen c n o _
       (record {
-          net = record { air = o .matches .net .air; next = o .matches .net .next; stolen = o .matches .net .stolen };
-          home = home-still to (clock (s .home .side .now) to) (λ e. off (ap (λ (x : ℕ). clock x to) (sym (o .matches .home .now-is)) ∙ e));
-          side = λ v z. side-still v to (clock (s .side v .side .now) to) (λ e. off (ap (λ (x : ℕ). clock x to) (sym (o .matches .side v z .now-is)) ∙ e)) (o .matches .side v z);
-          box = λ a. box-still a to (clock (s .box a .now) to) (λ e. off (ap (λ (x : ℕ). clock x to) (sym (o .matches .box a .now-is)) ∙ e))
+        net = record { air = o .matches .net .air; next = o .matches .net .next; stolen = o .matches .net .stolen };
+        home = home-still to (clock (s .home .side .now) to) (λ e. off (ap (λ (x : ℕ). clock x to) (sym (o .matches .home .now-is)) ∙ e));
+        side = λ v z. side-still v to (clock (s .side v .side .now) to) (λ e. off (ap (λ (x : ℕ). clock x to) (sym (o .matches .side v z .now-is)) ∙ e)) (o .matches .side v z);
+        box = λ a. box-still a to (clock (s .box a .now) to) (λ e. off (ap (λ (x : ℕ). clock x to) (sym (o .matches .box a .now-is)) ∙ e));
       })
 
   -- everybody goes on
@@ -99,31 +99,31 @@ module _ (c : Setting) (n : Naming (c .own)) {K : List Closing} {p : ℕ} {s : S
     grown : Grows (o .model) (waited (to - o .model .now) (o .model))
     grown =
         record {
-            now-le = omega arith;
-            next-le = omega arith;
-            thefts = λ a h. h;
-            taken = λ a h. h;
-            lines = λ l h. h;
-            wishes = λ x h. h;
-            made = λ k h. h;
-            asked = λ q h. h;
-            done = λ d h. h
+          now-le = omega arith;
+          next-le = omega arith;
+          thefts = λ a h. h;
+          taken = λ a h. h;
+          lines = λ l h. h;
+          wishes = λ x h. h;
+          made = λ k h. h;
+          asked = λ q h. h;
+          done = λ d h. h;
         }
 
     home-on : (k : Ticked) → k ≡ On → HomeOk c n (waited (to - o .model .now) (o .model)) (home-side (setTick (s .home .side) to k) (s .home))
     home-on On e =
         let m = o .matches .home in
         record {
-            now-is = now-then;
-            lag-is = m .lag-is;
-            number-is = m .number-is;
-            life-is = m .life-is;
-            key-is = m .key-is;
-            accounts = m .accounts;
-            is-open = m .is-open;
-            is-closed =
-                λ k h. let x = m .is-closed k h in record { closing = x .closing; known = x .known; whose = x .whose; past = let y = x .past in omega arith };
-            notes = notes-later c n (o .model) (waited (to - o .model .now) (o .model)) 0 (s .home .side .wake) (s .home .junk) (s .home .kept) (omega arith) (λ d h e. h) (m .notes)
+          now-is = now-then;
+          lag-is = m .lag-is;
+          number-is = m .number-is;
+          life-is = m .life-is;
+          key-is = m .key-is;
+          accounts = m .accounts;
+          is-open = m .is-open;
+          is-closed =
+              λ k h. let x = m .is-closed k h in record { closing = x .closing; known = x .known; whose = x .whose; past = let y = x .past in omega arith };
+          notes = notes-later c n (o .model) (waited (to - o .model .now) (o .model)) 0 (s .home .side .wake) (s .home .junk) (s .home .kept) (omega arith) (λ d h e. h) (m .notes);
         }
     home-on Back e = absurd (let z : _≡_ {A = ℕ} 0 1 = cc in omega arith)
     home-on Stopped e = absurd (let z : _≡_ {A = ℕ} 0 1 = cc in omega arith)
@@ -132,10 +132,10 @@ module _ (c : Setting) (n : Naming (c .own)) {K : List Closing} {p : ℕ} {s : S
         → SideOk c n (waited (to - o .model .now) (o .model)) v (view (setTick (s .side v .side) to k) (s .side v .kept) (s .side v .junk) (s .side v .writes) (s .side v .left))
     side-on v On e m =
         record {
-            now-is = now-then;
-            lag-is = m .lag-is;
-            number-is = m .number-is;
-            notes = notes-later c n (o .model) (waited (to - o .model .now) (o .model)) v (s .side v .side .wake) (s .side v .junk) (s .side v .kept) (omega arith) (λ d h e. h) (m .notes)
+          now-is = now-then;
+          lag-is = m .lag-is;
+          number-is = m .number-is;
+          notes = notes-later c n (o .model) (waited (to - o .model .now) (o .model)) v (s .side v .side .wake) (s .side v .junk) (s .side v .kept) (omega arith) (λ d h e. h) (m .notes);
         }
     side-on v Back e m = absurd (let z : _≡_ {A = ℕ} 0 1 = cc in omega arith)
     side-on v Stopped e m = absurd (let z : _≡_ {A = ℕ} 0 1 = cc in omega arith)
@@ -144,69 +144,69 @@ module _ (c : Setting) (n : Naming (c .own)) {K : List Closing} {p : ℕ} {s : S
     box-on a On e =
         let m = o .matches .box a in
         record {
-            now-is = now-then;
-            key-is = m .key-is;
-            logins = λ q h. let x = m .logins q h in pending-stays c n {m = o .model} {t = waited (to - o .model .now) (o .model)} a _ q (λ y z. z) x (x .not-taken);
-            askings = λ q h z. let x = m .askings q h z in pending-stays c n {m = o .model} {t = waited (to - o .model .now) (o .model)} a _ q (λ y z. z) x (x .not-taken);
-            tickets = λ y h. ticket-stays c n {m = o .model} {t = waited (to - o .model .now) (o .model)} a y (λ q z. z) (m .tickets y h)
+          now-is = now-then;
+          key-is = m .key-is;
+          logins = λ q h. let x = m .logins q h in pending-stays c n {m = o .model} {t = waited (to - o .model .now) (o .model)} a _ q (λ y z. z) x (x .not-taken);
+          askings = λ q h z. let x = m .askings q h z in pending-stays c n {m = o .model} {t = waited (to - o .model .now) (o .model)} a _ q (λ y z. z) x (x .not-taken);
+          tickets = λ y h. ticket-stays c n {m = o .model} {t = waited (to - o .model .now) (o .model)} a y (λ q z. z) (m .tickets y h);
         }
     box-on a Back e = absurd (let z : _≡_ {A = ℕ} 0 1 = cc in omega arith)
     box-on a Stopped e = absurd (let z : _≡_ {A = ℕ} 0 1 = cc in omega arith)
 
     goes-on : Tied c n K (suc p)
-          (record {
-            home = home-side (onTick (s .home .side) to) (s .home);
-            side = λ v. view (onTick (s .side v .side) to) (s .side v .kept) (s .side v .junk) (s .side v .writes) (s .side v .left);
-            box = λ a. toldBox (s .box a) to (clock (s .box a .now) to);
-            air = s .air;
-            used = s .used;
-            stolen = s .stolen
-          }) ls gs bs ds xs
-    goes-on =
-        let reach = reach-waited (rulesOf c n) (o .events) (o .model) (o .reach) (to - o .model .now) in
-        record {
-            events = reach .0;
-            model = waited (to - o .model .now) (o .model);
-            reach = reach .1;
-            matches =
-                record {
-                    net = record { air = o .matches .net .air; next = o .matches .net .next; stolen = o .matches .net .stolen };
-                    home = home-on (clock (s .home .side .now) to) (ap (λ (x : ℕ). clock x to) (o .matches .home .now-is) ∙ on);
-                    side = λ v z. side-on v (clock (s .side v .side .now) to) (ap (λ (x : ℕ). clock x to) (o .matches .side v z .now-is) ∙ on) (o .matches .side v z);
-                    box = λ a. box-on a (clock (s .box a .now) to) (ap (λ (x : ℕ). clock x to) (o .matches .box a .now-is) ∙ on)
-                };
-            lines = o .lines;
-            keys = o .keys;
-            begun = o .begun;
-            deeds = deeds-stay c n ls ls (o .model) (waited (to - o .model .now) (o .model)) grown (λ w l h. h) (o .deeds);
-            takens = o .takens;
-            since = o .since;
-            low-lines = down-more (λ (w : Wanted). w .place) p (suc p) ls (omega arith) (o .low-lines);
-            low-keys = down-more (λ (g : Given). g .place) p (suc p) gs (omega arith) (o .low-keys)
-        }
-
-  pub tells-all : (to : ℕ)
-      → Tied c n K (suc p)
         (record {
           home = home-side (onTick (s .home .side) to) (s .home);
           side = λ v. view (onTick (s .side v .side) to) (s .side v .kept) (s .side v .junk) (s .side v .writes) (s .side v .left);
           box = λ a. toldBox (s .box a) to (clock (s .box a .now) to);
           air = s .air;
           used = s .used;
-          stolen = s .stolen
+          stolen = s .stolen;
         }) ls gs bs ds xs
+    goes-on =
+        let reach = reach-waited (rulesOf c n) (o .events) (o .model) (o .reach) (to - o .model .now) in
+        record {
+          events = reach .0;
+          model = waited (to - o .model .now) (o .model);
+          reach = reach .1;
+          matches =
+              record {
+                net = record { air = o .matches .net .air; next = o .matches .net .next; stolen = o .matches .net .stolen };
+                home = home-on (clock (s .home .side .now) to) (ap (λ (x : ℕ). clock x to) (o .matches .home .now-is) ∙ on);
+                side = λ v z. side-on v (clock (s .side v .side .now) to) (ap (λ (x : ℕ). clock x to) (o .matches .side v z .now-is) ∙ on) (o .matches .side v z);
+                box = λ a. box-on a (clock (s .box a .now) to) (ap (λ (x : ℕ). clock x to) (o .matches .box a .now-is) ∙ on);
+              };
+          lines = o .lines;
+          keys = o .keys;
+          begun = o .begun;
+          deeds = deeds-stay c n ls ls (o .model) (waited (to - o .model .now) (o .model)) grown (λ w l h. h) (o .deeds);
+          takens = o .takens;
+          since = o .since;
+          low-lines = down-more (λ (w : Wanted). w .place) p (suc p) ls (omega arith) (o .low-lines);
+          low-keys = down-more (λ (g : Given). g .place) p (suc p) gs (omega arith) (o .low-keys);
+        }
+
+  pub tells-all : (to : ℕ)
+      → Tied c n K (suc p)
+      (record {
+        home = home-side (onTick (s .home .side) to) (s .home);
+        side = λ v. view (onTick (s .side v .side) to) (s .side v .kept) (s .side v .junk) (s .side v .writes) (s .side v .left);
+        box = λ a. toldBox (s .box a) to (clock (s .box a .now) to);
+        air = s .air;
+        used = s .used;
+        stolen = s .stolen;
+      }) ls gs bs ds xs
   tells-all to = go (clock (o .model .now) to) refl
     where
       go : (k : Ticked) → clock (o .model .now) to ≡ k
           → Tied c n K (suc p)
-            (record {
-              home = home-side (onTick (s .home .side) to) (s .home);
-              side = λ v. view (onTick (s .side v .side) to) (s .side v .kept) (s .side v .junk) (s .side v .writes) (s .side v .left);
-              box = λ a. toldBox (s .box a) to (clock (s .box a .now) to);
-              air = s .air;
-              used = s .used;
-              stolen = s .stolen
-            }) ls gs bs ds xs
+          (record {
+            home = home-side (onTick (s .home .side) to) (s .home);
+            side = λ v. view (onTick (s .side v .side) to) (s .side v .kept) (s .side v .junk) (s .side v .writes) (s .side v .left);
+            box = λ a. toldBox (s .box a) to (clock (s .box a .now) to);
+            air = s .air;
+            used = s .used;
+            stolen = s .stolen;
+          }) ls gs bs ds xs
       go On e = goes-on to e
       go Back e = still to (λ f. let z : _≡_ {A = ℕ} 0 1 = cc in omega arith)
       go Stopped e = still to (λ f. let z : _≡_ {A = ℕ} 0 1 = cc in omega arith)

@@ -76,7 +76,7 @@ module _ (c : Setting) (n : Naming (c .own)) where
   TakenFact gs bs x =
       Safe (rulesOf c n) (x .stolen) (x .reader) 0
       → (g : Given) × List·Memᴰ g gs × (g .reader ≡ x .reader) × (g .service ≡ x .service) × (g .key ≡ x .key) × (g .number ≡ x .number) × (g .place < x .place)
-        × ((b : Begun) × List·Memᴰ b bs × (b .reader ≡ x .reader) × (b .number ≡ x .number) × (b .at ≤ g .at))
+      × ((b : Begun) × List·Memᴰ b bs × (b .reader ≡ x .reader) × (b .number ≡ x .number) × (b .at ≤ g .at))
 
   -- p: how many acts there were; K: closings that are known
   pub record Tied (K : List Closing) (p : ℕ) (s : System) (ls : List Wanted) (gs : List Given) (bs : List Begun) (ds : List Deed) (xs : List Taken) : Type 0 where
@@ -104,12 +104,12 @@ module _ (c : Setting) (n : Naming (c .own)) where
           line : LineFact ls m d e → LineFact ls′ t d e
           line x =
               record {
-                  asked = x .asked;
-                  answers = answers-grows (rulesOf c n) g (x .answers);
-                  as-wanted = x .as-wanted;
-                  line = x .line;
-                  beside = lift (x .line) (x .asked .line) (x .beside);
-                  before = x .before
+                asked = x .asked;
+                answers = answers-grows (rulesOf c n) g (x .answers);
+                as-wanted = x .as-wanted;
+                line = x .line;
+                beside = lift (x .line) (x .asked .line) (x .beside);
+                before = x .before;
               }
 
   pub taken-stays : (gs gs′ : List Given) (bs bs′ : List Begun) (x : Taken) → ((g : Given) → List·Memᴰ g gs → List·Memᴰ g gs′) → ((b : Begun) → List·Memᴰ b bs → List·Memᴰ b bs′)
@@ -124,16 +124,16 @@ module _ (c : Setting) (n : Naming (c .own)) where
       → (t : System) → Matches c n t (o .model) → Tied K (suc p) t ls gs bs ds xs
   unseen {K} {p} {s} {ls} {gs} o t k =
       record {
-          events = o .events;
-          model = o .model;
-          reach = o .reach;
-          matches = k;
-          lines = o .lines;
-          keys = o .keys;
-          begun = o .begun;
-          deeds = o .deeds;
-          takens = o .takens;
-          since = o .since;
-          low-lines = down-more (λ (w : Wanted). w .place) p (suc p) ls (omega arith) (o .low-lines);
-          low-keys = down-more (λ (g : Given). g .place) p (suc p) gs (omega arith) (o .low-keys)
+        events = o .events;
+        model = o .model;
+        reach = o .reach;
+        matches = k;
+        lines = o .lines;
+        keys = o .keys;
+        begun = o .begun;
+        deeds = o .deeds;
+        takens = o .takens;
+        since = o .since;
+        low-lines = down-more (λ (w : Wanted). w .place) p (suc p) ls (omega arith) (o .low-lines);
+        low-keys = down-more (λ (g : Given). g .place) p (suc p) gs (omega arith) (o .low-keys);
       }

@@ -92,33 +92,33 @@ module _ (c : Setting) (n : Naming (c .own)) {K : List Closing} {p : ℕ} {s : S
     -- by no ticket: a login
     login : (v ≡ 0 → ⊥) → n .name (numberOf (s .box a .left) .0) ≡ even (suc (length (s .used)))
         → Tied c n K (suc p)
-          (with-sent (toldSent (n .name) (LogsIn (line.loginOf (s .box a)))) (toldDrawn (LogsIn (line.loginOf (s .box a)))) (with-box a (line.loggedIn (line.counted (s .box a)) (line.lineOf (s .box a) v w)) s))
-          (told ∷ ls) gs (begunTold (LogsIn (line.loginOf (s .box a))) p a (s .box a .now) ++ bs) ds xs
+        (with-sent (toldSent (n .name) (LogsIn (line.loginOf (s .box a)))) (toldDrawn (LogsIn (line.loginOf (s .box a)))) (with-box a (line.loggedIn (line.counted (s .box a)) (line.lineOf (s .box a) v w)) s))
+        (told ∷ ls) gs (begunTold (LogsIn (line.loginOf (s .box a))) p a (s .box a .now) ++ bs) ds xs
     login service new =
         record {
-            events = ev ∷ o .events;
-            model = t;
-            reach = events.onward (o .reach) ev may;
-            matches =
-                record {
-                    net =
-                        record {
-                            air = λ x h. sent-one t x _ _ word refl h;
-                            next = let z = o .matches .net .next in omega arith;
-                            stolen = o .matches .net .stolen
-                        };
-                    home = home-stays c n {m = o .model} {t = t} (s .home) refl (λ d k f. k) refl (o .matches .home);
-                    side = λ j z. side-stays c n {m = o .model} {t = t} j (s .side j) refl (λ d k f. k) (o .matches .side j z);
-                    box = λ j. at-cases (λ (i : ℕ) (x : Box). BoxOk c n t i x) a _ (s .box) mine j (stays j)
-                };
-            lines = both (record { reader = refl; service = refl; what = refl; at = sym (ok .now-is) }) (o .lines);
-            keys = o .keys;
-            begun = both (record { reader = refl; number = sym (drawn-is _ new); at = sym (ok .now-is); stage = refl }) (o .begun);
-            deeds = deeds-stay c n ls (told ∷ ls) (o .model) t (g .grows) (λ y l h. there h) (o .deeds);
-            takens = λ x h. taken-stays c n gs gs bs _ x (λ y z. z) (λ y z. List·Memᴰ·tail z) (o .takens x h);
-            since = o .since;
-            low-lines = (omega arith, o .low-lines);
-            low-keys = down-more (λ (g : Given). g .place) p (suc p) gs (omega arith) (o .low-keys)
+          events = ev ∷ o .events;
+          model = t;
+          reach = events.onward (o .reach) ev may;
+          matches =
+              record {
+                net =
+                    record {
+                      air = λ x h. sent-one t x _ _ word refl h;
+                      next = let z = o .matches .net .next in omega arith;
+                      stolen = o .matches .net .stolen;
+                    };
+                home = home-stays c n {m = o .model} {t = t} (s .home) refl (λ d k f. k) refl (o .matches .home);
+                side = λ j z. side-stays c n {m = o .model} {t = t} j (s .side j) refl (λ d k f. k) (o .matches .side j z);
+                box = λ j. at-cases (λ (i : ℕ) (x : Box). BoxOk c n t i x) a _ (s .box) mine j (stays j);
+              };
+          lines = both (record { reader = refl; service = refl; what = refl; at = sym (ok .now-is) }) (o .lines);
+          keys = o .keys;
+          begun = both (record { reader = refl; number = sym (drawn-is _ new); at = sym (ok .now-is); stage = refl }) (o .begun);
+          deeds = deeds-stay c n ls (told ∷ ls) (o .model) t (g .grows) (λ y l h. there h) (o .deeds);
+          takens = λ x h. taken-stays c n gs gs bs _ x (λ y z. z) (λ y z. List·Memᴰ·tail z) (o .takens x h);
+          since = o .since;
+          low-lines = (omega arith, o .low-lines);
+          low-keys = down-more (λ (g : Given). g .place) p (suc p) gs (omega arith) (o .low-keys);
         }
       where
         ev : Event
@@ -152,23 +152,23 @@ module _ (c : Setting) (n : Naming (c .own)) {K : List Closing} {p : ℕ} {s : S
         begun-now : PendingOk c n t a LoggingIn pending
         begun-now =
             record {
-                wish = x₀;
-                known = List·Memᴰ·head refl;
-                at-stage = refl;
-                number = drawn-is _ new;
-                key = sym own-is;
-                not-taken = untaken;
-                line = record { reader = refl; service = refl; what = refl; at = sym (ok .now-is) }
+              wish = x₀;
+              known = List·Memᴰ·head refl;
+              at-stage = refl;
+              number = drawn-is _ new;
+              key = sym own-is;
+              not-taken = untaken;
+              line = record { reader = refl; service = refl; what = refl; at = sym (ok .now-is) };
             }
 
         mine : BoxOk c n t a (line.loggedIn (line.counted (s .box a)) (line.lineOf (s .box a) v w))
         mine =
             record {
-                now-is = ok .now-is;
-                key-is = ok .key-is;
-                logins = λ q h. logins q (put-cases _ _ q h);
-                askings = stays a .askings;
-                tickets = stays a .tickets
+              now-is = ok .now-is;
+              key-is = ok .key-is;
+              logins = λ q h. logins q (put-cases _ _ q h);
+              askings = stays a .askings;
+              tickets = stays a .tickets;
             }
           where
             logins : (q : Pending) → (q ≡ pending) ⊎ List·Memᴰ q (s .box a .logins) → PendingOk c n t a LoggingIn q
@@ -179,36 +179,36 @@ module _ (c : Setting) (n : Naming (c .own)) {K : List Closing} {p : ℕ} {s : S
     by-house : (v ≡ 0 → ⊥) → (q : Pass) → q .service ≡ 0 → (h : Held (Unit {0})) → List·Memᴰ h (s .box a .tickets) → h .pass ≡ q
         → n .name (numberOf (s .box a .left) .0) ≡ even (suc (length (s .used)))
         → Tied c n K (suc p)
-          (with-sent (toldSent (n .name) (Asks (q .id) (chest.askingOf (s .box a) (q .key) (q .service) (line.lineOf (s .box a) v w)))) (toldDrawn (Asks (q .id) (chest.askingOf (s .box a) (q .key) (q .service) (line.lineOf (s .box a) v w))))
-          (with-box a (chest.asked (line.counted (s .box a)) (q .key) (q .service) (line.lineOf (s .box a) v w)) s))
-          (told ∷ ls) gs (begunTold (Asks (q .id) (chest.askingOf (s .box a) (q .key) (q .service) (line.lineOf (s .box a) v w))) p a (s .box a .now) ++ bs) ds xs
+        (with-sent (toldSent (n .name) (Asks (q .id) (chest.askingOf (s .box a) (q .key) (q .service) (line.lineOf (s .box a) v w)))) (toldDrawn (Asks (q .id) (chest.askingOf (s .box a) (q .key) (q .service) (line.lineOf (s .box a) v w))))
+        (with-box a (chest.asked (line.counted (s .box a)) (q .key) (q .service) (line.lineOf (s .box a) v w)) s))
+        (told ∷ ls) gs (begunTold (Asks (q .id) (chest.askingOf (s .box a) (q .key) (q .service) (line.lineOf (s .box a) v w))) p a (s .box a .now) ++ bs) ds xs
     by-house service q house h held pass new =
         record {
-            events = ev ∷ o .events;
-            model = t;
-            reach = events.onward (o .reach) ev may;
-            matches =
-                record {
-                    net =
-                        record {
-                            air = λ x k. sent-one t x _ _ word refl k;
-                            next = let z = o .matches .net .next in omega arith;
-                            stolen = o .matches .net .stolen
-                        };
-                    home = home-stays c n {m = o .model} {t = t} (s .home) refl (λ d k f. k) refl (o .matches .home);
-                    side = λ j z. side-stays c n {m = o .model} {t = t} j (s .side j) refl (λ d k f. k) (o .matches .side j z);
-                    box = λ j. at-cases (λ (i : ℕ) (x : Box). BoxOk c n t i x) a _ (s .box) mine j (stays j)
-                };
-            lines = both (record { reader = tick .reader; service = refl; what = refl; at = sym (ok .now-is) }) (o .lines);
-            keys = o .keys;
-            begun =
-                subst (λ (b : Bool). Pairs (SameBegun c n) (cond b (record { place = p; reader = a; number = numberOf (s .box a .left) .0; at = s .box a .now; login = false } ∷ []) [] ++ bs) (t .wishes)) (sym is-house)
-                (both (record { reader = tick .reader; number = sym (drawn-is _ new); at = sym (ok .now-is); stage = refl }) (o .begun));
-            deeds = deeds-stay c n ls (told ∷ ls) (o .model) t (g .grows) (λ y l k. there k) (o .deeds);
-            takens = λ x k. taken-stays c n gs gs bs _ x (λ y z. z) (λ y z. behind (eqb (q .service) 0) _ bs y z) (o .takens x k);
-            since = o .since;
-            low-lines = (omega arith, o .low-lines);
-            low-keys = down-more (λ (g : Given). g .place) p (suc p) gs (omega arith) (o .low-keys)
+          events = ev ∷ o .events;
+          model = t;
+          reach = events.onward (o .reach) ev may;
+          matches =
+              record {
+                net =
+                    record {
+                      air = λ x k. sent-one t x _ _ word refl k;
+                      next = let z = o .matches .net .next in omega arith;
+                      stolen = o .matches .net .stolen;
+                    };
+                home = home-stays c n {m = o .model} {t = t} (s .home) refl (λ d k f. k) refl (o .matches .home);
+                side = λ j z. side-stays c n {m = o .model} {t = t} j (s .side j) refl (λ d k f. k) (o .matches .side j z);
+                box = λ j. at-cases (λ (i : ℕ) (x : Box). BoxOk c n t i x) a _ (s .box) mine j (stays j);
+              };
+          lines = both (record { reader = tick .reader; service = refl; what = refl; at = sym (ok .now-is) }) (o .lines);
+          keys = o .keys;
+          begun =
+              subst (λ (b : Bool). Pairs (SameBegun c n) (cond b (record { place = p; reader = a; number = numberOf (s .box a .left) .0; at = s .box a .now; login = false } ∷ []) [] ++ bs) (t .wishes)) (sym is-house)
+              (both (record { reader = tick .reader; number = sym (drawn-is _ new); at = sym (ok .now-is); stage = refl }) (o .begun));
+          deeds = deeds-stay c n ls (told ∷ ls) (o .model) t (g .grows) (λ y l k. there k) (o .deeds);
+          takens = λ x k. taken-stays c n gs gs bs _ x (λ y z. z) (λ y z. behind (eqb (q .service) 0) _ bs y z) (o .takens x k);
+          since = o .since;
+          low-lines = (omega arith, o .low-lines);
+          low-keys = down-more (λ (g : Given). g .place) p (suc p) gs (omega arith) (o .low-keys);
         }
       where
         is-house : eqb (q .service) 0 ≡ true
@@ -221,9 +221,10 @@ module _ (c : Setting) (n : Naming (c .own)) {K : List Closing} {p : ℕ} {s : S
         ev = events.wish (tick .asked) v (spell (wordsOf w))
 
         may : events.HoldsHouse (rulesOf c n) (o .model) (tick .asked) × events.Wants (rulesOf c n) (o .model) v (spell (wordsOf w))
-        may =
-            ( record { known = tick .known; the-house = tick .service ∙ ap (λ (x : Pass). x .service) pass ∙ house }
-            , record { a-service = service; writable = gets-spell (o .model .air) (wordsOf w) })
+        may = (
+          record { known = tick .known; the-house = tick .service ∙ ap (λ (x : Pass). x .service) pass ∙ house },
+          record { a-service = service; writable = gets-spell (o .model .air) (wordsOf w) },
+        )
 
         t : State
         t = after (rulesOf c n) ev (o .model)
@@ -247,10 +248,10 @@ module _ (c : Setting) (n : Naming (c .own)) {K : List Closing} {p : ℕ} {s : S
         word =
             ap (λ (b : Bool). events.asking (n .name (q .key .0)) (q .service) (n .name (numberOf (s .box a .left) .0)) (cond b (Num (getD (cond b (twoBytes v) w .bytes) 0 0 * 256 + getD (cond b (twoBytes v) w .bytes) 1 0)) (spell (wordsOf (cond b (twoBytes v) w)))) (cond b (s .box a .now) (s .box a .now))) is-house
             ∙ (let i = key-is in
-              let j = drawn-is _ new in
-              let k = ok .now-is in
-              let u = two-bytes v in
-              cc)
+            let j = drawn-is _ new in
+            let k = ok .now-is in
+            let u = two-bytes v in
+            cc)
 
         stays : (j : ℕ) → BoxOk c n t j (s .box j)
         stays j = box-stays c n {m = o .model} {t = t} j (s .box j) refl (g .grows) (λ q y z. z .not-taken) (o .matches .box j)
@@ -261,23 +262,23 @@ module _ (c : Setting) (n : Naming (c .own)) {K : List Closing} {p : ℕ} {s : S
         begun-now : PendingOk c n t a AskingHouse pending
         begun-now =
             record {
-                wish = x₀;
-                known = List·Memᴰ·head refl;
-                at-stage = refl;
-                number = drawn-is _ new;
-                key = sym key-is;
-                not-taken = untaken;
-                line = record { reader = tick .reader; service = refl; what = refl; at = sym (ok .now-is) }
+              wish = x₀;
+              known = List·Memᴰ·head refl;
+              at-stage = refl;
+              number = drawn-is _ new;
+              key = sym key-is;
+              not-taken = untaken;
+              line = record { reader = tick .reader; service = refl; what = refl; at = sym (ok .now-is) };
             }
 
         mine : BoxOk c n t a (chest.asked (line.counted (s .box a)) (q .key) (q .service) (line.lineOf (s .box a) v w))
         mine =
             record {
-                now-is = ok .now-is;
-                key-is = ok .key-is;
-                logins = stays a .logins;
-                askings = λ y k e. askings y e (put-cases _ _ y k);
-                tickets = stays a .tickets
+              now-is = ok .now-is;
+              key-is = ok .key-is;
+              logins = stays a .logins;
+              askings = λ y k e. askings y e (put-cases _ _ y k);
+              tickets = stays a .tickets;
             }
           where
             askings : (y : Pending) → y .asks ≡ 0 → (y ≡ pending) ⊎ List·Memᴰ y (s .box a .askings) → PendingOk c n t a AskingHouse y
@@ -288,36 +289,36 @@ module _ (c : Setting) (n : Naming (c .own)) {K : List Closing} {p : ℕ} {s : S
     by-service : (v ≡ 0 → ⊥) → (q : Pass) → q .service ≡ v → (h : Held (Unit {0})) → List·Memᴰ h (s .box a .tickets) → h .pass ≡ q
         → n .name (numberOf (s .box a .left) .0) ≡ even (suc (length (s .used)))
         → Tied c n K (suc p)
-          (with-sent (toldSent (n .name) (Asks (q .id) (chest.askingOf (s .box a) (q .key) (q .service) (line.lineOf (s .box a) v w)))) (toldDrawn (Asks (q .id) (chest.askingOf (s .box a) (q .key) (q .service) (line.lineOf (s .box a) v w))))
-          (with-box a (chest.asked (line.counted (s .box a)) (q .key) (q .service) (line.lineOf (s .box a) v w)) s))
-          (told ∷ ls) gs (begunTold (Asks (q .id) (chest.askingOf (s .box a) (q .key) (q .service) (line.lineOf (s .box a) v w))) p a (s .box a .now) ++ bs) ds xs
+        (with-sent (toldSent (n .name) (Asks (q .id) (chest.askingOf (s .box a) (q .key) (q .service) (line.lineOf (s .box a) v w)))) (toldDrawn (Asks (q .id) (chest.askingOf (s .box a) (q .key) (q .service) (line.lineOf (s .box a) v w))))
+        (with-box a (chest.asked (line.counted (s .box a)) (q .key) (q .service) (line.lineOf (s .box a) v w)) s))
+        (told ∷ ls) gs (begunTold (Asks (q .id) (chest.askingOf (s .box a) (q .key) (q .service) (line.lineOf (s .box a) v w))) p a (s .box a .now) ++ bs) ds xs
     by-service service q mine-is h held pass new =
         record {
-            events = ev ∷ o .events;
-            model = t;
-            reach = events.onward (o .reach) ev may;
-            matches =
-                record {
-                    net =
-                        record {
-                            air = λ x k. sent-one t x _ _ word refl k;
-                            next = let z = o .matches .net .next in omega arith;
-                            stolen = o .matches .net .stolen
-                        };
-                    home = home-stays c n {m = o .model} {t = t} (s .home) refl (λ d k f. k) refl (o .matches .home);
-                    side = λ j z. side-stays c n {m = o .model} {t = t} j (s .side j) refl (λ d k f. k) (o .matches .side j z);
-                    box = λ j. at-cases (λ (i : ℕ) (x : Box). BoxOk c n t i x) a _ (s .box) mine j (stays j)
-                };
-            lines = both (record { reader = tick .reader; service = asked-service; what = refl; at = sym (ok .now-is) }) (o .lines);
-            keys = o .keys;
-            begun =
-                subst (λ (b : Bool). Pairs (SameBegun c n) (cond b (record { place = p; reader = a; number = numberOf (s .box a .left) .0; at = s .box a .now; login = false } ∷ []) [] ++ bs) (t .wishes)) (sym no-house)
-                (o .begun);
-            deeds = deeds-stay c n ls (told ∷ ls) (o .model) t (g .grows) (λ y l k. there k) (o .deeds);
-            takens = λ x k. taken-stays c n gs gs bs _ x (λ y z. z) (λ y z. behind (eqb (q .service) 0) _ bs y z) (o .takens x k);
-            since = o .since;
-            low-lines = (omega arith, o .low-lines);
-            low-keys = down-more (λ (g : Given). g .place) p (suc p) gs (omega arith) (o .low-keys)
+          events = ev ∷ o .events;
+          model = t;
+          reach = events.onward (o .reach) ev may;
+          matches =
+              record {
+                net =
+                    record {
+                      air = λ x k. sent-one t x _ _ word refl k;
+                      next = let z = o .matches .net .next in omega arith;
+                      stolen = o .matches .net .stolen;
+                    };
+                home = home-stays c n {m = o .model} {t = t} (s .home) refl (λ d k f. k) refl (o .matches .home);
+                side = λ j z. side-stays c n {m = o .model} {t = t} j (s .side j) refl (λ d k f. k) (o .matches .side j z);
+                box = λ j. at-cases (λ (i : ℕ) (x : Box). BoxOk c n t i x) a _ (s .box) mine j (stays j);
+              };
+          lines = both (record { reader = tick .reader; service = asked-service; what = refl; at = sym (ok .now-is) }) (o .lines);
+          keys = o .keys;
+          begun =
+              subst (λ (b : Bool). Pairs (SameBegun c n) (cond b (record { place = p; reader = a; number = numberOf (s .box a .left) .0; at = s .box a .now; login = false } ∷ []) [] ++ bs) (t .wishes)) (sym no-house)
+              (o .begun);
+          deeds = deeds-stay c n ls (told ∷ ls) (o .model) t (g .grows) (λ y l k. there k) (o .deeds);
+          takens = λ x k. taken-stays c n gs gs bs _ x (λ y z. z) (λ y z. behind (eqb (q .service) 0) _ bs y z) (o .takens x k);
+          since = o .since;
+          low-lines = (omega arith, o .low-lines);
+          low-keys = down-more (λ (g : Given). g .place) p (suc p) gs (omega arith) (o .low-keys);
         }
       where
         no-house : eqb (q .service) 0 ≡ false
@@ -358,10 +359,10 @@ module _ (c : Setting) (n : Naming (c .own)) {K : List Closing} {p : ℕ} {s : S
         word =
             ap (λ (b : Bool). events.asking (n .name (q .key .0)) (q .service) (n .name (numberOf (s .box a .left) .0)) (cond b (Num (getD (cond b (twoBytes v) w .bytes) 0 0 * 256 + getD (cond b (twoBytes v) w .bytes) 1 0)) (spell (wordsOf (cond b (twoBytes v) w)))) (cond b (s .box a .now) (s .box a .now))) no-house
             ∙ (let i = key-is in
-              let j = drawn-is _ new in
-              let k = ok .now-is in
-              let u : q .service ≡ tick .asked .service = mine-is ∙ sym asked-service in
-              cc)
+            let j = drawn-is _ new in
+            let k = ok .now-is in
+            let u : q .service ≡ tick .asked .service = mine-is ∙ sym asked-service in
+            cc)
 
         stays : (j : ℕ) → BoxOk c n t j (s .box j)
         stays j = box-stays c n {m = o .model} {t = t} j (s .box j) refl (g .grows) (λ q y z. z .not-taken) (o .matches .box j)
@@ -372,11 +373,11 @@ module _ (c : Setting) (n : Naming (c .own)) {K : List Closing} {p : ℕ} {s : S
         mine : BoxOk c n t a (chest.asked (line.counted (s .box a)) (q .key) (q .service) (line.lineOf (s .box a) v w))
         mine =
             record {
-                now-is = ok .now-is;
-                key-is = ok .key-is;
-                logins = stays a .logins;
-                askings = λ y k e. askings y e (put-cases _ _ y k);
-                tickets = stays a .tickets
+              now-is = ok .now-is;
+              key-is = ok .key-is;
+              logins = stays a .logins;
+              askings = λ y k e. askings y e (put-cases _ _ y k);
+              tickets = stays a .tickets;
             }
           where
             askings : (y : Pending) → y .asks ≡ 0 → (y ≡ pending) ⊎ List·Memᴰ y (s .box a .askings) → PendingOk c n t a AskingHouse y
@@ -385,8 +386,8 @@ module _ (c : Setting) (n : Naming (c .own)) {K : List Closing} {p : ℕ} {s : S
 
     pub wants-so : (by : Option ℕ) → Wanting c n s a v by w
         → Tied c n K (suc p)
-          (with-sent (toldSent (n .name) (line.wanted (s .box a) v by w)) (toldDrawn (line.wanted (s .box a) v by w)) (with-box a (line.wantedAfter (s .box a) v by w) s))
-          (lineTold (line.wanted (s .box a) v by w) told ++ ls) gs (begunTold (line.wanted (s .box a) v by w) p a (s .box a .now) ++ bs) ds xs
+        (with-sent (toldSent (n .name) (line.wanted (s .box a) v by w)) (toldDrawn (line.wanted (s .box a) v by w)) (with-box a (line.wantedAfter (s .box a) v by w) s))
+        (lineTold (line.wanted (s .box a) v by w) told ++ ls) gs (begunTold (line.wanted (s .box a) v by w) p a (s .box a .now) ++ bs) ds xs
     wants-so by h = go (line.unread (s .box a .lines) v w) (firstFault (line.lineConditions (s .box a) v by)) (line.passBy by (s .box a .tickets)) refl refl (h .new)
       where
         refused : Tied c n K (suc p) (with-box a (s .box a) s) ls gs bs ds xs
@@ -398,11 +399,11 @@ module _ (c : Setting) (n : Naming (c .own)) {K : List Closing} {p : ℕ} {s : S
         go : (b : Bool) (f : Option Fault) (k : Option Pass) → firstFault (line.lineConditions (s .box a) v by) ≡ f → line.passBy by (s .box a .tickets) ≡ k
             → New c n s (toldDrawn (cond b (Wrong OutOfRange) (unless f (line.sentBy (s .box a) k (line.lineOf (s .box a) v w)) Wrong)))
             → Tied c n K (suc p)
-              (with-sent (toldSent (n .name) (cond b (Wrong OutOfRange) (unless f (line.sentBy (s .box a) k (line.lineOf (s .box a) v w)) Wrong)))
-              (toldDrawn (cond b (Wrong OutOfRange) (unless f (line.sentBy (s .box a) k (line.lineOf (s .box a) v w)) Wrong)))
-              (with-box a (cond b (s .box a) (unless f (line.sentAfter (s .box a) k (line.lineOf (s .box a) v w)) (λ _. s .box a))) s))
-              (lineTold (cond b (Wrong OutOfRange) (unless f (line.sentBy (s .box a) k (line.lineOf (s .box a) v w)) Wrong)) told ++ ls) gs
-              (begunTold (cond b (Wrong OutOfRange) (unless f (line.sentBy (s .box a) k (line.lineOf (s .box a) v w)) Wrong)) p a (s .box a .now) ++ bs) ds xs
+            (with-sent (toldSent (n .name) (cond b (Wrong OutOfRange) (unless f (line.sentBy (s .box a) k (line.lineOf (s .box a) v w)) Wrong)))
+            (toldDrawn (cond b (Wrong OutOfRange) (unless f (line.sentBy (s .box a) k (line.lineOf (s .box a) v w)) Wrong)))
+            (with-box a (cond b (s .box a) (unless f (line.sentAfter (s .box a) k (line.lineOf (s .box a) v w)) (λ _. s .box a))) s))
+            (lineTold (cond b (Wrong OutOfRange) (unless f (line.sentBy (s .box a) k (line.lineOf (s .box a) v w)) Wrong)) told ++ ls) gs
+            (begunTold (cond b (Wrong OutOfRange) (unless f (line.sentBy (s .box a) k (line.lineOf (s .box a) v w)) Wrong)) p a (s .box a .now) ++ bs) ds xs
         go true f k e g new = refused
         go false (Some f) k e g new = refused
         go false None None e g new = login (λ z. clash (eq-eqb v 0 z) (or-false-left (eqb v 0) _ (right None e))) new

@@ -7,7 +7,7 @@
 -- Naming             a way to name keys and numbers by which different ones have different names
 use mathlib.Core.Path.{_≡_}
 use mathlib.Core.Bool.{Bool, cond}
-use mathlib.Core.List.{List, [], _∷_}
+use mathlib.Core.List.{List, [], _∷_, _++_}
 use Prim.Native.Nat.{ℕ, suc, _<_}
 use lib.ListN.{length, getD, replicate}
 use Rattle.std.specs.declared.option.Option.{Option}
@@ -49,3 +49,12 @@ pub record Naming (own : List Key) : Type 0 where
   pub keyOf : ℕ → ℕ
   pub apart : (x y : Bytes) → name x ≡ name y → x ≡ y
   pub of-own : (n : ℕ) → n < length own → name (ownOf own n .0) ≡ Own (keyOf n)
+
+-- the draws of a run, the newest first, are apart: none was drawn before, and none is an own key
+unfoldable pub Apart : List Key → List Bytes → Type 0
+Apart own [] = Unit {0}
+Apart own (d ∷ ds) = (drawName ds d ≡ None) × (ownName own 0 d ≡ None) × Apart own ds
+
+-- Where the draws are apart, each is named by how many came before it, and one more.
+abbrev pub DrawsNamed : Type 0
+DrawsNamed = (own : List Key) (later earlier : List Bytes) (d : Bytes) → Apart own (later ++ (d ∷ earlier)) → nameOf own (later ++ (d ∷ earlier)) d ≡ even (suc (length earlier))

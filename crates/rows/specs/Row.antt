@@ -13,7 +13,7 @@ use Rattle.parts.specs.declared.word.Ticket.{Ticket}
 use Rattle.parts.specs.declared.word.What.{What}
 use Rattle.service_rules.specs.Service as service
 use Rattle.service_rules.specs.declared.answer.Answer.{Answer}
-use Rattle.service_rules.specs.declared.answer.Answer.the-variants.{Done, Refused}
+use Rattle.service_rules.specs.declared.answer.Answer.the-variants.{Done as Did, Refused}
 use Rattle.house_rules.specs.Account.{closed}
 use Rattle.house_rules.specs.House as house
 use Rattle.house_rules.specs.declared.reply.Reply.{Reply}
@@ -23,9 +23,10 @@ use Rattle.box_rules.specs.Letter as letter
 use Rattle.box_rules.specs.declared.answer.Answer as Told
 use Rattle.box_rules.specs.declared.answer.Answer.the-variants as told
 use Rattle.box_rules.specs.declared.line.Under.{Under}
-use Rattle.tickets.specs.Term.{Gets}
-use Rattle.tickets.specs.State.{Safe, isIn}
-use Rattle.rows.specs.Name.{Bytes, Naming}
+use Rattle.tickets.specs.Term.{Term, Gets}
+use Rattle.tickets.specs.State.{Done, State, Safe, isIn}
+use Rattle.tickets.specs.Event.{Event, Reach}
+use Rattle.rows.specs.Name.{Bytes, Naming, spell}
 use Rattle.rows.specs.Word.{wordsOf}
 use Rattle.rows.specs.Setting.{Setting, rulesOf}
 use Rattle.rows.specs.System.{System, Act, Possible, run}
@@ -107,7 +108,7 @@ takenTold (told.Wrong f) p a l st = []
 
 -- the deed of an answer that is no refusal
 abbrev pub deedTold : Answer → (place service at : ℕ) → List ℕ → List Deed
-deedTold (Done d l) p v t st =
+deedTold (Did d l) p v t st =
     record { place = p; service = v; reader = d .reader; key = l .key .0; number = d .number .0; what = wordsOf (d .what); at = t; stolen = st } ∷ []
 deedTold (Refused f) p v t st = []
 
@@ -265,4 +266,21 @@ module _ (c : Setting) (n : Naming (c .own)) where
   Fresh =
       (t : ℕ) (es : List Act) → Possible c n t es → (x : Taken) → List·Memᴰ x (takens t es) → Safe (rulesOf c n) (x .stolen) (x .reader) 0
       → (g : Given) × List·Memᴰ g (keys t es) × (g .reader ≡ x .reader) × (g .service ≡ x .service) × (g .key ≡ x .key) × (g .number ≡ x .number) × (g .place < x .place)
-        × ((b : Begun) × List·Memᴰ b (begun t es) × (b .reader ≡ x .reader) × (b .number ≡ x .number) × (b .at ≤ g .at))
+      × ((b : Begun) × List·Memᴰ b (begun t es) × (b .reader ≡ x .reader) × (b .number ≡ x .number) × (b .at ≤ g .at))
+
+  -- a row is done by events of the model: they lead to a state at the same tick, with the same thefts, in which everything stands that was sent, and each deed
+  pub record RunOf (t : ℕ) (es : List Act) (evs : List Event) (m : State) : Type 0 where
+    pub reach : Reach (rulesOf c n) evs m
+    pub same-tick : run c n t es .home .side .now ≡ m .now
+    pub same-thefts : m .stolen ≡ run c n t es .stolen
+    pub sent : (x : Term) → List·Memᴰ x (run c n t es .air) → List·Memᴰ x (m .air)
+    pub done : (d : Deed) → List·Memᴰ d (deeds t es)
+        → (e : Done) × List·Memᴰ e (m .done) × (e .service ≡ d .service) × (e .who ≡ d .reader) × (e .key ≡ n .name (d .key)) × (e .number ≡ n .name (d .number)) × (e .what ≡ spell (d .what)) × (e .at ≡ d .at)
+
+  -- Every possible row is a run of the model, whatever crashes, devices that do not write, full memories and boxes, and lack of drawn bytes there are.
+  abbrev pub IsRun : Type 0
+  IsRun = (t : ℕ) (es : List Act) → Possible c n t es → (evs : List Event) × (m : State) × RunOf t es evs m
+
+-- a promise over rows, in every setting and by every way of naming
+abbrev pub InEvery : ((c : Setting) → Naming (c .own) → Type 0) → Type 0
+InEvery P = (c : Setting) (n : Naming (c .own)) → P c n

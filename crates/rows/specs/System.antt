@@ -167,7 +167,7 @@ module _ (c : Setting) (n : Naming (c .own)) where
     box = λ a. toldBox (s .box a) to (clock (s .box a .now) to);
     air = s .air;
     used = s .used;
-    stolen = s .stolen
+    stolen = s .stolen;
   }
   step (hands House bs) s = with-home (home-left (s .home .left ++ bs) (s .home)) s
   step (hands (Service v) bs) s =
@@ -179,7 +179,7 @@ module _ (c : Setting) (n : Naming (c .own)) where
     box = s .box;
     air = n .name (ownOf (c .own) m .0) ∷ s .air;
     used = s .used;
-    stolen = n .keyOf m ∷ s .stolen
+    stolen = n .keyOf m ∷ s .stolen;
   }
   step (opens m k w) s = with-home (home-accounts (openedAfter (s .home .accounts) m k w) (s .home)) s
   step (closes m w) s = with-home (home-accounts (shutAfter (s .home .accounts) m w) (s .home)) s
@@ -282,7 +282,7 @@ module _ (c : Setting) (n : Naming (c .own)) where
     box = λ a. emptyBox a (ownOf (c .own) a) t [];
     air = [];
     used = [];
-    stolen = []
+    stolen = [];
   }
 
   -- the system after these acts, the newest first
