@@ -99,6 +99,7 @@ pub record Inv (r : Rules) (s : State) : Type 0 where
   pub done : (d : Done) → List·Memᴰ d (s .done) → DoneOk r s d
   pub one-key : (m n : Key) → List·Memᴰ m (s .made) → List·Memᴰ n (s .made) → m .key ≡ n .key → m ≡ n
   pub one-asking : (p q : Asked) → List·Memᴰ p (s .asked) → List·Memᴰ q (s .asked) → p .number ≡ q .number → p ≡ q
+  pub one-number : (x y : Wish) → List·Memᴰ x (s .wishes) → List·Memᴰ y (s .wishes) → x .number ≡ y .number → x ≡ y
   pub key-no-wish : (m : Key) (x : Wish) → List·Memᴰ m (s .made) → List·Memᴰ x (s .wishes) → m .key ≡ x .number → ⊥
   pub key-no-asking : (m : Key) (q : Asked) → List·Memᴰ m (s .made) → List·Memᴰ q (s .asked) → m .key ≡ q .number → ⊥
   -- a line has one login and one asking for the house; once it asks the house its login is taken; once it asks the service all is taken; and that it does once

@@ -398,6 +398,7 @@ module _ {r : Rules} {s t : State} (i : Inv r s) (c : Change r s t) where
         done = keeps-done;
         one-key = unique-grown (λ (m : Key). m .key) (s .next) (λ m h. i .made m h .low) (λ m n. n .fresh) (c .made) (i .one-key);
         one-asking = unique-grown (λ (q : Asked). q .number) (s .next) (λ q h. i .asked q h .low) (λ q n. n .fresh) (c .asked) (i .one-asking);
+        one-number = unique-grown (λ (x : Wish). x .number) (s .next) (λ x h. i .wishes x h .low) (λ x n. n .fresh) (c .wishes) (i .one-number);
         key-no-wish = keeps-no-wish;
         key-no-asking = keeps-no-asking;
         one-wish = keeps-one-wish;

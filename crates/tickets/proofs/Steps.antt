@@ -652,19 +652,23 @@ module _ {r : Rules} {s : State} (i : Inv r s) where
       under (inr (k, st)) =
           by-forged (known-grows g k) (subst (λ (x : ℕ). isIn (r .keyOf x) (s .stolen) ≡ true) (h .for-house) st)
 
-  -- every event keeps the invariant
+  -- every event changes only what it may
+  pub change : (e : Event) → May r s e → Change r s (after r e s)
+  change Event.ticks h = step-ticks
+  change (Event.steals a) h = step-steals a
+  change (Event.closes a) h = step-closes a
+  change (Event.begins a v w) h = step-begins a v w h
+  change (Event.grants a n t) h = step-grants a n t h
+  change (Event.wants x k u) h = step-wants x k u h
+  change (Event.wish q v w) h = step-wish q v w (h .0) (h .1)
+  change (Event.again q w) h = step-again q w (h .0) (h .1)
+  change (Event.serves b n v t) h = step-serves b n v t h
+  change (Event.asks x k u) h = step-asks x k u h
+  change (Event.does b n w t) h = step-does b n w t h
+
+  -- so every event keeps the invariant
   pub step : (e : Event) → May r s e → Inv r (after r e s)
-  step Event.ticks h = keep i step-ticks
-  step (Event.steals a) h = keep i (step-steals a)
-  step (Event.closes a) h = keep i (step-closes a)
-  step (Event.begins a v w) h = keep i (step-begins a v w h)
-  step (Event.grants a n t) h = keep i (step-grants a n t h)
-  step (Event.wants x k u) h = keep i (step-wants x k u h)
-  step (Event.wish q v w) h = keep i (step-wish q v w (h .0) (h .1))
-  step (Event.again q w) h = keep i (step-again q w (h .0) (h .1))
-  step (Event.serves b n v t) h = keep i (step-serves b n v t h)
-  step (Event.asks x k u) h = keep i (step-asks x k u h)
-  step (Event.does b n w t) h = keep i (step-does b n w t h)
+  step e h = keep i (change e h)
 
 -- at the start there is nothing
 pub inv-start : (r : Rules) → Inv r start
@@ -679,6 +683,7 @@ inv-start r =
       done = λ d h. absurd (List·Memᴰ·not-nil h);
       one-key = λ m n h. absurd (List·Memᴰ·not-nil h);
       one-asking = λ p q h. absurd (List·Memᴰ·not-nil h);
+      one-number = λ x y h. absurd (List·Memᴰ·not-nil h);
       key-no-wish = λ m x h. absurd (List·Memᴰ·not-nil h);
       key-no-asking = λ m q h. absurd (List·Memᴰ·not-nil h);
       one-wish = λ x y h. absurd (List·Memᴰ·not-nil h);

@@ -1,0 +1,14 @@
+pub mod Names
+pub mod Noting
+pub mod Pairs
+pub mod Matches
+pub mod Sides
+pub mod Tied
+pub mod Quiet
+pub mod Accounts
+pub mod Ticking
+pub mod Doing
+pub mod Tables
+pub mod Wanting
+pub mod Taking
+pub mod Promises

@@ -1,0 +1,5 @@
+pub mod Name
+pub mod Word
+pub mod Setting
+pub mod System
+pub mod Row
