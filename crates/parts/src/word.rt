@@ -25,10 +25,10 @@ impl Key {
 
 impl Number {
     // Are the bytes the same?
-    pub fn same(&self, other: &Number) -> bool
-        ensures { λ r. ⌜ r ≡ sameBytes (now (self .entry) .0) (now (other .entry) .0) ⌝ }
+    pub fn same(&self, number: &Number) -> bool
+        ensures { λ r. ⌜ r ≡ sameBytes (now (self .entry) .0) (now (number .entry) .0) ⌝ }
     {
-        self.0 == other.0
+        self.0 == number.0
     }
 }
 
