@@ -3,3 +3,6 @@ pub mod Noting
 pub mod Pairs
 pub mod Matches
 pub mod Sides
+pub mod ServedSteady
+pub mod ServedActs
+pub mod ServedRow

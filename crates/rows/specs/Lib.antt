@@ -3,3 +3,4 @@ pub mod Word
 pub mod Setting
 pub mod System
 pub mod Row
+pub mod Served
