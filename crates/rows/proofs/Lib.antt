@@ -6,3 +6,4 @@ pub mod Sides
 pub mod ServedSteady
 pub mod ServedActs
 pub mod ServedRow
+pub mod HappensRow

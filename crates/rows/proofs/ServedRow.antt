@@ -12,18 +12,20 @@ use Rattle.std.specs.declared.option.Option.the-variants.{None, Some}
 use Rattle.std.specs.shelf.Text.{sameBytes}
 use Rattle.parts.specs.Condition.{firstFault}
 use Rattle.parts.specs.Drawn.{numberOf, keyOf}
+use Rattle.parts.specs.declared.word.Asking.{Asking}
 use Rattle.parts.specs.declared.word.Key.{Key}
 use Rattle.parts.specs.declared.word.What.{What}
 use Rattle.service_rules.specs.Service.{View, nobody}
 use Rattle.service_rules.specs.Service as service
 use Rattle.service_rules.specs.declared.answer.Answer.{Answer}
 use Rattle.service_rules.specs.declared.answer.Answer.the-variants.{Done}
+use Rattle.service_rules.specs.declared.side.Side.{Side}
 use Rattle.house_rules.specs.Account.{accountOf, isAbsent, ownKey, unknown}
 use Rattle.house_rules.specs.Give.{giving}
 use Rattle.house_rules.specs.House.{Home, untilOf}
 use Rattle.house_rules.specs.House as house
 use Rattle.house_rules.specs.declared.reply.Reply.{Reply}
-use Rattle.box_rules.specs.Chest.{asked, askingOf}
+use Rattle.box_rules.specs.Chest.{asked, askingOf, twoBytes}
 use Rattle.box_rules.specs.Table.{matches}
 use Rattle.box_rules.specs.Line as line
 use Rattle.box_rules.specs.Letter as letter
@@ -36,10 +38,10 @@ use Rattle.box_rules.specs.declared.line.Under.the-variants.{Own as OwnKey, Ses
 use Rattle.tickets.specs.Term.{Term, Gets, even, has}
 use Rattle.tickets.proofs.Bools.{or-false-left}
 use Rattle.rows.specs.Name.{Bytes, Naming, ownOf}
-use Rattle.rows.specs.Word.{toldSent, toldDrawn, replySent, replyDrawn, ticketTerm, letterTerm, askingTerm, loginTerm}
+use Rattle.rows.specs.Word.{wordsOf, toldSent, toldDrawn, replySent, replyDrawn, ticketTerm, letterTerm, askingTerm, loginTerm}
 use Rattle.rows.specs.Setting.{Setting}
 use Rattle.rows.specs.System.{System, Box, Act, at, step, run, Can, Possible, New, Wanting, HeardLogin, HeardLetter, HeardAtHouse, HeardAtService, wants, logsIn, takes, asksHouse, asks, with-home, with-side, with-box, with-sent}
-use Rattle.rows.specs.Row.{Deed, deedTold, Wanted, lineTold}
+use Rattle.rows.specs.Row.{Deed, deedTold, deeds, Wanted, lineTold, lines}
 use Rattle.rows.specs.Served.{Ready, Ends, Same, Served, firstLogin, houseTicket, houseLetter, houseAsking, serviceTicket, serviceLetter, serviceAsking, newDeed, wantedLine, sixCalls}
 use Rattle.rows.proofs.Names.{same-refl}
 use Rattle.rows.proofs.ServedSteady.{Steady, row-steady, at-either, unless-either, below-take}
@@ -231,3 +233,184 @@ module _ (c : Setting) (n : Naming (c .own)) (s : System) (a v : ℕ) (w : What)
                 subst (λ (x : Told.Answer). New c n s₂ (toldDrawn x)) (sym taken₃)
                 (subst (λ (x : List Bytes). n .name (numberOf (drop 32 (s .box a .left)) .0) ≡ even (suc (length x))) (sym (looks₂ .used-is)) (r .draws .1 .1 .0))
         }
+
+    -- 4: the asking for the house
+    fine₄ : HouseFine (house.drew (s .home)) a v (untilOf (s .home)) (s .box a .now) digest₁
+    fine₄ =
+        record {
+            known = r .known;
+            there = r .service-known;
+            is-open = r .is-open;
+            in-time = o .boxes a .now-is;
+            is-good = omega arith;
+            is-new = r .house-digest;
+            room = r .house-at-work .room;
+            drawn = home-drawn;
+            awake = r .house-at-work .awake;
+            writes = r .house-at-work .writes
+        }
+
+    answered₄ : house.answered (s₃ .home) (houseTicket (s .home) a) (houseAsking (s .box a) v) digest₁
+        ≡ giving (untilOf (s .home)) (drop 64 (s .home .left)) (givenFor (house.drew (s .home)) a v (keyOf (s .home .left)) (numberOf (drop 32 (s .box a .left))) (s .box a .now))
+    answered₄ =
+        ap (λ (x : Home). house.answered x (houseTicket (s .home) a) (houseAsking (s .box a) v) digest₁) (looks₃ .home)
+        ∙ house-answer (house.drew (s .home)) a v (keyOf (s .home .left)) (numberOf (drop 32 (s .box a .left))) (untilOf (s .home)) (s .box a .now) digest₁ fine₄
+
+    looks₄ : Looks a s₄ (house.drew (house.noted (house.drew (s .home)) digest₁)) (box₂ (s .box a) (s .home) v w) air₄ used₄
+    looks₄ =
+        home-looks (n .name) a {s = s₃} looks₃ answered₄
+        (ap (λ (x : Home). house.after x (houseTicket (s .home) a) (houseAsking (s .box a) v) digest₁) (looks₃ .home)
+        ∙ house-after (house.drew (s .home)) a v (keyOf (s .home .left)) (numberOf (drop 32 (s .box a .left))) (untilOf (s .home)) (s .box a .now) digest₁ fine₄)
+
+    can₄ : Can c n s₃ (asksHouse (houseTicket (s .home) a) (houseAsking (s .box a) v))
+    can₄ =
+        record {
+            ticket =
+                subst (λ (x : List Term). Gets x (ticketTerm (n .name) (s₃ .home .key) (houseTicket (s .home) a))) (sym (looks₃ .air-is))
+                (has (List·Memᴰ·tail (List·Memᴰ·head (ap (λ (x : Home). ticketTerm (n .name) (x .key) (houseTicket (s .home) a)) (looks₃ .home)))));
+            asking =
+                subst (λ (x : List Term). Gets x (askingTerm (n .name) (keyOf (s .home .left)) (houseAsking (s .box a) v))) (sym (looks₃ .air-is))
+                (has (List·Memᴰ·head refl));
+            new =
+                subst (λ (x : Reply). New c n s₃ (replyDrawn x)) (sym answered₄)
+                (subst (λ (x : List Bytes). n .name (keyOf (drop 64 (s .home .left)) .0) ≡ even (suc (length x))) (sym (looks₃ .used-is)) (r .draws .1 .1 .1 .0))
+        }
+
+    -- 5: the letter for the service
+    pending₅ : letter.pendingFor (box₂ (s .box a) (s .home) v w) (Session (keyOf (s .home .left))) (serviceLetter (s .box a) (s .home) v)
+        ≡ Some (record { number = numberOf (drop 32 (s .box a .left)); key = keyOf (s .home .left); asks = 0; line = line′ (s .box a) v w })
+    pending₅ =
+        oldest-newest (AtHouse (keyOf (s .home .left)) (numberOf (drop 32 (s .box a .left))) v) (record { number = numberOf (drop 32 (s .box a .left)); key = keyOf (s .home .left); asks = 0; line = line′ (s .box a) v w }) (take 15 (s .box a .askings))
+        (and-from (sameBytes (keyOf (s .home .left) .0) (keyOf (s .home .left) .0)) (sameBytes (numberOf (drop 32 (s .box a .left)) .0) (numberOf (drop 32 (s .box a .left)) .0) && eqb v v) (same-refl (keyOf (s .home .left) .0))
+        (and-from (sameBytes (numberOf (drop 32 (s .box a .left)) .0) (numberOf (drop 32 (s .box a .left)) .0)) (eqb v v) (same-refl (numberOf (drop 32 (s .box a .left)) .0)) (eq-eqb v v refl)))
+        (λ p m.
+          and-right (eqb (p .asks) 0) _ (and-right (sameBytes (p .key .0) (keyOf (s .home .left) .0)) _ (and-left (sameBytes (p .number .0) (numberOf (drop 32 (s .box a .left)) .0)) (eqb (p .line .service) v)
+          (not-under-way c n (length (s .used)) (suc (length used₂)) (take 15 (s .box a .askings)) (numberOf (drop 32 (s .box a .left)) .0)
+          (below-take c n (length (s .used)) 15 (s .box a .askings) (o .boxes a .askings)) (r .draws .1 .1 .0) (omega arith) p m))))
+
+    taken₅ : letter.taken (s₄ .box a) (Session (keyOf (s .home .left))) (serviceLetter (s .box a) (s .home) v)
+        ≡ told.Takes (record { id = s .box a .taken + 1 + 1; service = v; until = untilOf (s .home) }) (askingOf (box₂ (s .box a) (s .home) v w) (keyOf (drop 64 (s .home .left))) v (line′ (s .box a) v w))
+    taken₅ =
+        ap (λ (x : Box). letter.taken x (Session (keyOf (s .home .left))) (serviceLetter (s .box a) (s .home) v)) (looks₄ .box)
+        ∙ letter-answer (box₂ (s .box a) (s .home) v w) (Session (keyOf (s .home .left))) (serviceLetter (s .box a) (s .home) v) _ pending₅ drawn₃ (r .box-at-work .tickets)
+
+    -- what is asked is the line's words, at the line's tick
+    asking₅ : askingOf (box₂ (s .box a) (s .home) v w) (keyOf (drop 64 (s .home .left))) v (line′ (s .box a) v w) .inside ≡ serviceAsking (s .box a) v w
+    asking₅ =
+        ap (λ (e : Bool). record { service = v; number = numberOf (drop 32 (drop 32 (s .box a .left))); what = cond e (twoBytes v) w; tick = cond e (s .box a .now) (s .box a .now) }) not-house
+
+    air-is₅ : s₅ .air ≡ air₅
+    air-is₅ =
+        ap (λ (x : Told.Answer). toldSent (n .name) x ++ s₄ .air) taken₅
+        ∙ (ap (λ (x : Asking). askingTerm (n .name) (keyOf (drop 64 (s .home .left))) x ∷ s₄ .air) asking₅
+        ∙ ap (λ (x : List Term). askingTerm (n .name) (keyOf (drop 64 (s .home .left))) (serviceAsking (s .box a) v w) ∷ x) (looks₄ .air-is))
+
+    can₅ : Can c n s₄ (takes a (Session (keyOf (s .home .left))) (serviceLetter (s .box a) (s .home) v))
+    can₅ =
+        record {
+            reader = r .reader;
+            letter-heard =
+                subst (λ (x : List Term). Gets x (letterTerm (n .name) (keyOf (s .home .left)) (serviceLetter (s .box a) (s .home) v))) (sym (looks₄ .air-is))
+                (has (List·Memᴰ·tail (List·Memᴰ·head refl)));
+            new =
+                subst (λ (x : Told.Answer). New c n s₄ (toldDrawn x)) (sym taken₅)
+                (subst (λ (x : List Bytes). n .name (numberOf (drop 32 (drop 32 (s .box a .left))) .0) ≡ even (suc (length x))) (sym (looks₄ .used-is)) (r .draws .1 .1 .1 .1 .0))
+        }
+
+    -- 6: the asking to the service
+    abbrev digest₂ : ℕ
+    digest₂ = c .digest (keyOf (drop 64 (s .home .left))) (numberOf (drop 32 (drop 32 (s .box a .left))))
+
+    fine₆ : ServiceFine (s .side v) a v (untilOf (s .home)) (s .box a .now) digest₂
+    fine₆ =
+        record {
+            somebody = reader-there;
+            number-is = o .sides v .number-is;
+            in-time = o .boxes a .now-is ∙ sym (o .sides v .now-is);
+            is-good = let e = o .sides v .now-is in omega arith;
+            is-new = r .digest;
+            room = r .at-work .room;
+            drawn = r .at-work .drawn;
+            awake = r .at-work .awake;
+            writes = r .at-work .writes
+        }
+
+    answered₆ : service.answered (s₅ .side v) (serviceTicket (s .home) a v) (serviceAsking (s .box a) v w) digest₂
+        ≡ Done (service.deedOf (serviceTicket (s .home) a v) (serviceAsking (s .box a) v w)) (service.receiptOf (s .side v) (serviceTicket (s .home) a v) (serviceAsking (s .box a) v w))
+    answered₆ = service-answer (s .side v) a v (keyOf (drop 64 (s .home .left))) (numberOf (drop 32 (drop 32 (s .box a .left)))) w (untilOf (s .home)) (s .box a .now) digest₂ fine₆
+
+    can₆ : Can c n s₅ (asks v (serviceTicket (s .home) a v) (serviceAsking (s .box a) v w))
+    can₆ =
+        record {
+            a-service = eqb-false v 0 not-house;
+            there = o .accounts v (r .service-known) .there;
+            ticket =
+                subst (λ (x : List Term). Gets x (ticketTerm (n .name) (ownOf (c .own) v) (serviceTicket (s .home) a v))) (sym air-is₅)
+                (has (List·Memᴰ·tail (List·Memᴰ·head (ap (λ (k : Key). ticketTerm (n .name) k (serviceTicket (s .home) a v)) (sym (o .accounts v (r .service-known) .own))))));
+            asking =
+                subst (λ (x : List Term). Gets x (askingTerm (n .name) (keyOf (drop 64 (s .home .left))) (serviceAsking (s .box a) v w))) (sym air-is₅)
+                (has (List·Memᴰ·head refl))
+        }
+
+    -- nothing else is changed
+    house-same : s₆ .home .side ≡ s .home .side
+    house-same = ap (λ (h : Home). h .side) (looks₄ .home)
+
+    accounts-same : s₆ .home .accounts ≡ s .home .accounts
+    accounts-same = ap (λ (h : Home). h .accounts) (looks₄ .home)
+
+    sides-same : (j : ℕ) → s₆ .side j .side ≡ s .side j .side
+    sides-same j =
+        at-either (λ (i : ℕ) (x : View). x .side ≡ s .side i .side) v (service.after (s .side v) (serviceTicket (s .home) a v) (serviceAsking (s .box a) v w) digest₂) (s .side)
+        (unless-either (λ (x : View). x .side ≡ s .side v .side) (firstFault (service.conditions (s .side v) (serviceTicket (s .home) a v) (serviceAsking (s .box a) v w) digest₂)) (service.doneBy (s .side v) digest₂) (λ _. s .side v) refl (λ _. refl)) j refl
+
+    -- the line and the deed
+    abbrev lineAt : (p t : ℕ) → List Wanted
+    lineAt p t = record { place = p; reader = a; service = v; what = wordsOf w; at = t } ∷ []
+
+    line-told : (p : ℕ) → lineTold (line.wanted (s .box a) v None w) (record { place = p; reader = a; service = v; what = wordsOf w; at = s .box a .now }) ≡ wantedLine s p a v w ∷ []
+    line-told p =
+        ap (λ (x : Told.Answer). lineTold x (record { place = p; reader = a; service = v; what = wordsOf w; at = s .box a .now })) wanted₁
+        ∙ ap (λ (t : ℕ). lineAt p t) (o .boxes a .now-is)
+
+    abbrev deedAt : (p t : ℕ) → List Deed
+    deedAt p t =
+        record {
+            place = p;
+            service = v;
+            reader = a;
+            key = keyOf (drop 64 (s .home .left)) .0;
+            number = numberOf (drop 32 (drop 32 (s .box a .left))) .0;
+            what = wordsOf w;
+            at = t;
+            stolen = s .stolen
+        }
+        ∷ []
+
+    deed-told : (p q : ℕ) → p ≡ q + 5
+        → deedTold (service.answered (s₅ .side v) (serviceTicket (s .home) a v) (serviceAsking (s .box a) v w) digest₂) p v (s₅ .side v .side .now) (s₅ .stolen) ≡ newDeed s q a v w ∷ []
+    deed-told p q e =
+        ap (λ (x : Answer). deedTold x p v (s .side v .side .now) (s .stolen)) answered₆
+        ∙ (ap (λ (t : ℕ). deedAt p t) (o .sides v .now-is)
+        ∙ ap (λ (i : ℕ). deedAt i (s .home .side .now)) e)
+
+module _ (c : Setting) (n : Naming (c .own)) where
+  pub served : Served c n
+  served t es p a v w r =
+      let s = run c n t es in
+      let o = row-steady c n t es p in
+      let all : Possible c n t (sixCalls s a v w ++ es) = (can₆ c n s a v w o r, (can₅ c n s a v w o r, (can₄ c n s a v w o r, (can₃ c n s a v w o r, (can₂ c n s a v w o r, (can₁ c n s a v w o r, p)))))) in
+      record {
+          possible = all;
+          deed = ap (λ (x : List Deed). x ++ deeds c n t es) (deed-told c n s a v w o r (suc (suc (suc (suc (suc (length es)))))) (length es) (omega arith));
+          line = ap (λ (x : List Wanted). x ++ lines c n t es) (line-told c n s a v w o r (length es));
+          same =
+              record {
+                  stolen = refl;
+                  accounts = accounts-same c n s a v w o r;
+                  house = house-same c n s a v w o r;
+                  sides = sides-same c n s a v w o r;
+                  boxes =
+                      λ j. row-steady c n t (sixCalls s a v w ++ es) all .boxes j .now-is ∙ (ap (λ (x : Side). x .now) (house-same c n s a v w o r) ∙ sym (o .boxes j .now-is))
+              }
+      }

@@ -4,3 +4,4 @@ pub mod Setting
 pub mod System
 pub mod Row
 pub mod Served
+pub mod Happens
