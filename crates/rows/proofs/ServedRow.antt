@@ -14,6 +14,10 @@ use Rattle.parts.specs.Condition.{firstFault}
 use Rattle.parts.specs.Drawn.{numberOf, keyOf}
 use Rattle.parts.specs.declared.word.Asking.{Asking}
 use Rattle.parts.specs.declared.word.Key.{Key}
+use Rattle.parts.specs.declared.word.Letter.{Letter}
+use Rattle.parts.specs.declared.word.Login.{Login}
+use Rattle.parts.specs.declared.word.Number.{Number}
+use Rattle.parts.specs.declared.word.Ticket.{Ticket}
 use Rattle.parts.specs.declared.word.What.{What}
 use Rattle.service_rules.specs.Service.{View, nobody}
 use Rattle.service_rules.specs.Service as service
@@ -33,16 +37,16 @@ use Rattle.box_rules.specs.declared.answer.Answer as Told
 use Rattle.box_rules.specs.declared.answer.Answer.the-variants as told
 use Rattle.box_rules.specs.declared.line.Line.{Line}
 use Rattle.box_rules.specs.declared.line.Pending.{Pending}
-use Rattle.box_rules.specs.declared.line.Sought.the-variants.{AtHouse, Login}
+use Rattle.box_rules.specs.declared.line.Sought.the-variants.{AtHouse, Login as ByNumber}
 use Rattle.box_rules.specs.declared.line.Under.the-variants.{Own as OwnKey, Session}
 use Rattle.tickets.specs.Term.{Term, Gets, even, has}
 use Rattle.tickets.proofs.Bools.{or-false-left}
 use Rattle.rows.specs.Name.{Bytes, Naming, ownOf}
-use Rattle.rows.specs.Word.{wordsOf, toldSent, toldDrawn, replySent, replyDrawn, ticketTerm, letterTerm, askingTerm, loginTerm}
+use Rattle.rows.specs.Word.{wordsOf, toldSent, toldDrawn, replySent, replyDrawn, ticketTerm, letterTerm, askingTerm, loginTerm, receiptTerm, answerSent}
 use Rattle.rows.specs.Setting.{Setting}
 use Rattle.rows.specs.System.{System, Box, Act, at, step, run, Can, Possible, New, Wanting, HeardLogin, HeardLetter, HeardAtHouse, HeardAtService, wants, logsIn, takes, asksHouse, asks, with-home, with-side, with-box, with-sent}
 use Rattle.rows.specs.Row.{Deed, deedTold, deeds, Wanted, lineTold, lines}
-use Rattle.rows.specs.Served.{Ready, Ends, Same, Served, firstLogin, houseTicket, houseLetter, houseAsking, serviceTicket, serviceLetter, serviceAsking, newDeed, wantedLine, sixCalls}
+use Rattle.rows.specs.Served.{Ready, Ends, Same, Served, firstLogin, houseTicket, houseLetter, houseAsking, serviceTicket, serviceLetter, serviceAsking, newDeed, wantedLine, sixCalls, sixSent}
 use Rattle.rows.proofs.Names.{same-refl}
 use Rattle.rows.proofs.ServedSteady.{Steady, row-steady, at-either, unless-either, below-take}
 use Rattle.rows.proofs.ServedActs.{line-answer, line-after, login-answer, login-after, letter-answer, letter-after, oldest-newest, not-under-way, HouseFine, house-answer, house-after, givenFor, ServiceFine, service-answer}
@@ -80,162 +84,208 @@ module _ (name : Bytes → Term) (a : ℕ) where
           used-is = ap (λ (y : Reply). replyDrawn y ++ s .used) p ∙ ap (λ (y : List Bytes). replyDrawn r′ ++ y) (l .used-is)
       }
 
--- what the box and the house become
-abbrev line′ : Box → (v : ℕ) → What → Line
-line′ b v w = line.lineOf b v w
-
-abbrev box₁ : Box → (v : ℕ) → What → Box
-box₁ b v w = line.loggedIn (line.counted b) (line′ b v w)
-
-abbrev box₂ : Box → Home → (v : ℕ) → What → Box
-box₂ b h v w = asked (letter.stored (letter.settled (box₁ b v w) OwnKey (houseLetter b h)) (houseLetter b h) tt) (keyOf (h .left)) 0 (line′ b v w)
-
 module _ (c : Setting) (n : Naming (c .own)) (s : System) (a v : ℕ) (w : What) where
+  -- the box, the house, and what the six acts bring
+  abbrev b : Box
+  b = s .box a
+
+  abbrev h : Home
+  h = s .home
+
+  abbrev theLine : Line
+  theLine = line.lineOf b v w
+
+  abbrev m₁ : Number
+  m₁ = numberOf (b .left)
+
+  abbrev m₂ : Number
+  m₂ = numberOf (drop 32 (b .left))
+
+  abbrev m₃ : Number
+  m₃ = numberOf (drop 32 (drop 32 (b .left)))
+
+  abbrev k₁ : Key
+  k₁ = keyOf (h .left)
+
+  abbrev k₂ : Key
+  k₂ = keyOf (drop 64 (h .left))
+
+  abbrev login₁ : Login
+  login₁ = firstLogin b
+
+  abbrev ticket₁ : Ticket
+  ticket₁ = houseTicket h a
+
+  abbrev letter₁ : Letter
+  letter₁ = houseLetter b h
+
+  abbrev asking₁ : Asking
+  asking₁ = houseAsking b v
+
+  abbrev ticket₂ : Ticket
+  ticket₂ = serviceTicket h a v
+
+  abbrev letter₂ : Letter
+  letter₂ = serviceLetter b h v
+
+  abbrev asking₂ : Asking
+  asking₂ = serviceAsking b v w
+
+  -- the house and the box on the way
+  abbrev h₁ : Home
+  h₁ = house.drew h
+
+  abbrev b₁ : Box
+  b₁ = line.loggedIn (line.counted b) theLine
+
+  abbrev b₂ : Box
+  b₂ = asked (letter.stored (letter.settled b₁ OwnKey letter₁) letter₁ tt) k₁ 0 theLine
+
   -- the five systems on the way, and the last
   abbrev s₁ : System
   s₁ = step c n (wants a v None w) s
 
   abbrev s₂ : System
-  s₂ = step c n (logsIn a (firstLogin (s .box a))) s₁
+  s₂ = step c n (logsIn a login₁) s₁
 
   abbrev s₃ : System
-  s₃ = step c n (takes a OwnKey (houseLetter (s .box a) (s .home))) s₂
+  s₃ = step c n (takes a OwnKey letter₁) s₂
 
   abbrev s₄ : System
-  s₄ = step c n (asksHouse (houseTicket (s .home) a) (houseAsking (s .box a) v)) s₃
+  s₄ = step c n (asksHouse ticket₁ asking₁) s₃
 
   abbrev s₅ : System
-  s₅ = step c n (takes a (Session (keyOf (s .home .left))) (serviceLetter (s .box a) (s .home) v)) s₄
+  s₅ = step c n (takes a (Session k₁) letter₂) s₄
 
   abbrev s₆ : System
-  s₆ = step c n (asks v (serviceTicket (s .home) a v) (serviceAsking (s .box a) v w)) s₅
+  s₆ = step c n (asks v ticket₂ asking₂) s₅
 
   -- what is sent
   abbrev air₁ : List Term
-  air₁ = loginTerm (n .name) (s .box a .key) (firstLogin (s .box a)) ∷ s .air
+  air₁ = loginTerm (n .name) (b .key) login₁ ∷ s .air
 
   abbrev air₂ : List Term
-  air₂ = ticketTerm (n .name) (s .home .key) (houseTicket (s .home) a) ∷ letterTerm (n .name) (ownKey (s .home .accounts) a) (houseLetter (s .box a) (s .home)) ∷ air₁
+  air₂ = ticketTerm (n .name) (h .key) ticket₁ ∷ letterTerm (n .name) (ownKey (h .accounts) a) letter₁ ∷ air₁
 
   abbrev air₃ : List Term
-  air₃ = askingTerm (n .name) (keyOf (s .home .left)) (houseAsking (s .box a) v) ∷ air₂
+  air₃ = askingTerm (n .name) k₁ asking₁ ∷ air₂
 
   abbrev air₄ : List Term
-  air₄ = ticketTerm (n .name) (ownKey (s .home .accounts) v) (serviceTicket (s .home) a v) ∷ letterTerm (n .name) (keyOf (s .home .left)) (serviceLetter (s .box a) (s .home) v) ∷ air₃
+  air₄ = ticketTerm (n .name) (ownKey (h .accounts) v) ticket₂ ∷ letterTerm (n .name) k₁ letter₂ ∷ air₃
 
   abbrev air₅ : List Term
-  air₅ = askingTerm (n .name) (keyOf (drop 64 (s .home .left))) (serviceAsking (s .box a) v w) ∷ air₄
+  air₅ = askingTerm (n .name) k₂ asking₂ ∷ air₄
 
   -- what is drawn
   abbrev used₁ : List Bytes
-  used₁ = numberOf (s .box a .left) .0 ∷ s .used
+  used₁ = m₁ .0 ∷ s .used
 
   abbrev used₂ : List Bytes
-  used₂ = keyOf (s .home .left) .0 ∷ used₁
+  used₂ = k₁ .0 ∷ used₁
 
   abbrev used₃ : List Bytes
-  used₃ = numberOf (drop 32 (s .box a .left)) .0 ∷ used₂
+  used₃ = m₂ .0 ∷ used₂
 
   abbrev used₄ : List Bytes
-  used₄ = keyOf (drop 64 (s .home .left)) .0 ∷ used₃
+  used₄ = k₂ .0 ∷ used₃
 
   abbrev used₅ : List Bytes
-  used₅ = numberOf (drop 32 (drop 32 (s .box a .left))) .0 ∷ used₄
+  used₅ = m₃ .0 ∷ used₄
 
   -- the digest that the house remembers
   abbrev digest₁ : ℕ
-  digest₁ = c .digest (keyOf (s .home .left)) (numberOf (drop 32 (s .box a .left)))
+  digest₁ = c .digest k₁ m₂
 
   module _ (o : Steady c n s) (r : Ready c n s a v w) where
     service-there : nobody v ≡ false
-    service-there = or-false-left (nobody v) (isAbsent (accountOf (s .home .accounts) v)) (r .service-known)
+    service-there = or-false-left (nobody v) (isAbsent (accountOf (h .accounts) v)) (r .service-known)
 
     not-house : eqb v 0 ≡ false
     not-house = or-false-left (eqb v 0) (ltb 1023 v) service-there
 
     reader-there : nobody a ≡ false
-    reader-there = or-false-left (nobody a) (isAbsent (accountOf (s .home .accounts) a)) (r .known)
+    reader-there = or-false-left (nobody a) (isAbsent (accountOf (h .accounts) a)) (r .known)
 
     -- the account has the key that the box has
-    own-a : ownKey (s .home .accounts) a ≡ s .box a .key
+    own-a : ownKey (h .accounts) a ≡ b .key
     own-a = o .accounts a (r .known) .own ∙ sym (o .boxes a .key-is)
 
-    drawn₂ : 32 ≤ length (drop 32 (s .box a .left))
-    drawn₂ = let e = length-drop 32 (s .box a .left) in let d = r .box-at-work .drawn in omega arith
+    drawn₂ : 32 ≤ length (drop 32 (b .left))
+    drawn₂ = let e = length-drop 32 (b .left) in let d = r .box-at-work .drawn in omega arith
 
-    drawn₃ : 32 ≤ length (drop 32 (drop 32 (s .box a .left)))
-    drawn₃ = let e = length-drop 32 (s .box a .left) in let f = length-drop 32 (drop 32 (s .box a .left)) in let d = r .box-at-work .drawn in omega arith
+    drawn₃ : 32 ≤ length (drop 32 (drop 32 (b .left)))
+    drawn₃ = let e = length-drop 32 (b .left) in let f = length-drop 32 (drop 32 (b .left)) in let d = r .box-at-work .drawn in omega arith
 
-    home-drawn : 64 ≤ length (drop 64 (s .home .left))
-    home-drawn = let e = length-drop 64 (s .home .left) in let d = r .house-at-work .drawn in omega arith
+    home-drawn : 64 ≤ length (drop 64 (h .left))
+    home-drawn = let e = length-drop 64 (h .left) in let d = r .house-at-work .drawn in omega arith
 
     -- 1: the line
-    wanted₁ : line.wanted (s .box a) v None w ≡ told.LogsIn (line.loginOf (s .box a))
-    wanted₁ = line-answer (s .box a) v w service-there (r .words) (r .box-at-work .lines) (let d = r .box-at-work .drawn in omega arith)
+    wanted₁ : line.wanted b v None w ≡ told.LogsIn (line.loginOf b)
+    wanted₁ = line-answer b v w service-there (r .words) (r .box-at-work .lines) (let d = r .box-at-work .drawn in omega arith)
 
-    looks₁ : Looks a s₁ (s .home) (box₁ (s .box a) v w) air₁ used₁
+    looks₁ : Looks a s₁ h b₁ air₁ used₁
     looks₁ =
-        box-looks (n .name) a {s = s} {b = s .box a} (record { home = refl; box = refl; air-is = refl; used-is = refl }) wanted₁
-        (line-after (s .box a) v w service-there (r .words) (r .box-at-work .lines) (let d = r .box-at-work .drawn in omega arith))
+        box-looks (n .name) a {s = s} {b = b} (record { home = refl; box = refl; air-is = refl; used-is = refl }) wanted₁
+        (line-after b v w service-there (r .words) (r .box-at-work .lines) (let d = r .box-at-work .drawn in omega arith))
 
     can₁ : Can c n s (wants a v None w)
     can₁ = record { reader = r .reader; new = subst (λ (x : Told.Answer). New c n s (toldDrawn x)) (sym wanted₁) (r .draws .0) }
 
     -- 2: the login
-    logged₂ : house.loggedIn (s₁ .home) a (firstLogin (s .box a)) ≡ giving (untilOf (s .home)) (s .home .left) (house.loginGiven (s .home) a (firstLogin (s .box a)))
-    logged₂ = login-answer (s .home) a (firstLogin (s .box a)) (r .known) (r .is-open) (o .boxes a .now-is) (let d = r .house-at-work .drawn in omega arith) (r .house-at-work .awake)
+    logged₂ : house.loggedIn (s₁ .home) a login₁ ≡ giving (untilOf h) (h .left) (house.loginGiven h a login₁)
+    logged₂ = login-answer h a login₁ (r .known) (r .is-open) (o .boxes a .now-is) (let d = r .house-at-work .drawn in omega arith) (r .house-at-work .awake)
 
-    looks₂ : Looks a s₂ (house.drew (s .home)) (box₁ (s .box a) v w) air₂ used₂
+    looks₂ : Looks a s₂ h₁ b₁ air₂ used₂
     looks₂ =
         home-looks (n .name) a {s = s₁} looks₁ logged₂
-        (login-after (s .home) a (firstLogin (s .box a)) (r .known) (r .is-open) (o .boxes a .now-is) (let d = r .house-at-work .drawn in omega arith) (r .house-at-work .awake))
+        (login-after h a login₁ (r .known) (r .is-open) (o .boxes a .now-is) (let d = r .house-at-work .drawn in omega arith) (r .house-at-work .awake))
 
-    can₂ : Can c n s₁ (logsIn a (firstLogin (s .box a)))
+    can₂ : Can c n s₁ (logsIn a login₁)
     can₂ =
         record {
             reader = r .reader;
             login =
-                subst (λ (x : List Term). Gets x (loginTerm (n .name) (ownKey (s .home .accounts) a) (firstLogin (s .box a)))) (sym (looks₁ .air-is))
-                (has (List·Memᴰ·head (ap (λ (k : Key). loginTerm (n .name) k (firstLogin (s .box a))) own-a)));
+                subst (λ (x : List Term). Gets x (loginTerm (n .name) (ownKey (h .accounts) a) login₁)) (sym (looks₁ .air-is))
+                (has (List·Memᴰ·head (ap (λ (k : Key). loginTerm (n .name) k login₁) own-a)));
             new =
                 subst (λ (x : Reply). New c n s₁ (replyDrawn x)) (sym logged₂)
-                (subst (λ (x : List Bytes). n .name (keyOf (s .home .left) .0) ≡ even (suc (length x))) (sym (looks₁ .used-is)) (r .draws .1 .0))
+                (subst (λ (x : List Bytes). n .name (k₁ .0) ≡ even (suc (length x))) (sym (looks₁ .used-is)) (r .draws .1 .0))
         }
 
     -- 3: the letter of the house
-    pending₃ : letter.pendingFor (box₁ (s .box a) v w) OwnKey (houseLetter (s .box a) (s .home)) ≡ Some (record { number = numberOf (s .box a .left); key = s .box a .key; asks = 0; line = line′ (s .box a) v w })
+    pending₃ : letter.pendingFor b₁ OwnKey letter₁ ≡ Some (record { number = m₁; key = b .key; asks = 0; line = theLine })
     pending₃ =
-        oldest-newest (Login (numberOf (s .box a .left))) (record { number = numberOf (s .box a .left); key = s .box a .key; asks = 0; line = line′ (s .box a) v w }) (take 15 (s .box a .logins))
-        (same-refl (numberOf (s .box a .left) .0))
-        (not-under-way c n (length (s .used)) (suc (length (s .used))) (take 15 (s .box a .logins)) (numberOf (s .box a .left) .0)
-        (below-take c n (length (s .used)) 15 (s .box a .logins) (o .boxes a .logins)) (r .draws .0) (omega arith))
+        oldest-newest (ByNumber m₁) (record { number = m₁; key = b .key; asks = 0; line = theLine }) (take 15 (b .logins))
+        (same-refl (m₁ .0))
+        (not-under-way c n (length (s .used)) (suc (length (s .used))) (take 15 (b .logins)) (m₁ .0)
+        (below-take c n (length (s .used)) 15 (b .logins) (o .boxes a .logins)) (r .draws .0) (omega arith))
 
-    taken₃ : letter.taken (s₂ .box a) OwnKey (houseLetter (s .box a) (s .home))
-        ≡ told.Takes (record { id = s .box a .taken + 1; service = 0; until = untilOf (s .home) }) (askingOf (box₁ (s .box a) v w) (keyOf (s .home .left)) 0 (line′ (s .box a) v w))
+    taken₃ : letter.taken (s₂ .box a) OwnKey letter₁
+        ≡ told.Takes (record { id = b .taken + 1; service = 0; until = untilOf h }) (askingOf b₁ k₁ 0 theLine)
     taken₃ =
-        ap (λ (x : Box). letter.taken x OwnKey (houseLetter (s .box a) (s .home))) (looks₂ .box)
-        ∙ letter-answer (box₁ (s .box a) v w) OwnKey (houseLetter (s .box a) (s .home)) _ pending₃ drawn₂ (let d = r .box-at-work .tickets in omega arith)
+        ap (λ (x : Box). letter.taken x OwnKey letter₁) (looks₂ .box)
+        ∙ letter-answer b₁ OwnKey letter₁ _ pending₃ drawn₂ (let d = r .box-at-work .tickets in omega arith)
 
-    looks₃ : Looks a s₃ (house.drew (s .home)) (box₂ (s .box a) (s .home) v w) air₃ used₃
+    looks₃ : Looks a s₃ h₁ b₂ air₃ used₃
     looks₃ =
         box-looks (n .name) a {s = s₂} looks₂ taken₃
-        (ap (λ (x : Box). letter.takenAfter x OwnKey (houseLetter (s .box a) (s .home)) tt) (looks₂ .box)
-        ∙ letter-after (box₁ (s .box a) v w) OwnKey (houseLetter (s .box a) (s .home)) _ pending₃ drawn₂ (let d = r .box-at-work .tickets in omega arith))
+        (ap (λ (x : Box). letter.takenAfter x OwnKey letter₁ tt) (looks₂ .box)
+        ∙ letter-after b₁ OwnKey letter₁ _ pending₃ drawn₂ (let d = r .box-at-work .tickets in omega arith))
 
-    can₃ : Can c n s₂ (takes a OwnKey (houseLetter (s .box a) (s .home)))
+    can₃ : Can c n s₂ (takes a OwnKey letter₁)
     can₃ =
         record {
             reader = r .reader;
             letter-heard =
-                subst (λ (x : List Term). Gets x (letterTerm (n .name) (s₂ .box a .key) (houseLetter (s .box a) (s .home)))) (sym (looks₂ .air-is))
-                (has (List·Memᴰ·tail (List·Memᴰ·head (ap (λ (k : Key). letterTerm (n .name) k (houseLetter (s .box a) (s .home))) (ap (λ (x : Box). x .key) (looks₂ .box) ∙ sym own-a)))));
+                subst (λ (x : List Term). Gets x (letterTerm (n .name) (s₂ .box a .key) letter₁)) (sym (looks₂ .air-is))
+                (has (List·Memᴰ·tail (List·Memᴰ·head (ap (λ (k : Key). letterTerm (n .name) k letter₁) (ap (λ (x : Box). x .key) (looks₂ .box) ∙ sym own-a)))));
             new =
                 subst (λ (x : Told.Answer). New c n s₂ (toldDrawn x)) (sym taken₃)
-                (subst (λ (x : List Bytes). n .name (numberOf (drop 32 (s .box a .left)) .0) ≡ even (suc (length x))) (sym (looks₂ .used-is)) (r .draws .1 .1 .0))
+                (subst (λ (x : List Bytes). n .name (m₂ .0) ≡ even (suc (length x))) (sym (looks₂ .used-is)) (r .draws .1 .1 .0))
         }
 
     -- 4: the asking for the house
-    fine₄ : HouseFine (house.drew (s .home)) a v (untilOf (s .home)) (s .box a .now) digest₁
+    fine₄ : HouseFine h₁ a v (untilOf h) (b .now) digest₁
     fine₄ =
         record {
             known = r .known;
@@ -250,78 +300,78 @@ module _ (c : Setting) (n : Naming (c .own)) (s : System) (a v : ℕ) (w : What)
             writes = r .house-at-work .writes
         }
 
-    answered₄ : house.answered (s₃ .home) (houseTicket (s .home) a) (houseAsking (s .box a) v) digest₁
-        ≡ giving (untilOf (s .home)) (drop 64 (s .home .left)) (givenFor (house.drew (s .home)) a v (keyOf (s .home .left)) (numberOf (drop 32 (s .box a .left))) (s .box a .now))
+    answered₄ : house.answered (s₃ .home) ticket₁ asking₁ digest₁
+        ≡ giving (untilOf h) (drop 64 (h .left)) (givenFor h₁ a v k₁ m₂ (b .now))
     answered₄ =
-        ap (λ (x : Home). house.answered x (houseTicket (s .home) a) (houseAsking (s .box a) v) digest₁) (looks₃ .home)
-        ∙ house-answer (house.drew (s .home)) a v (keyOf (s .home .left)) (numberOf (drop 32 (s .box a .left))) (untilOf (s .home)) (s .box a .now) digest₁ fine₄
+        ap (λ (x : Home). house.answered x ticket₁ asking₁ digest₁) (looks₃ .home)
+        ∙ house-answer h₁ a v k₁ m₂ (untilOf h) (b .now) digest₁ fine₄
 
-    looks₄ : Looks a s₄ (house.drew (house.noted (house.drew (s .home)) digest₁)) (box₂ (s .box a) (s .home) v w) air₄ used₄
+    looks₄ : Looks a s₄ (house.drew (house.noted h₁ digest₁)) b₂ air₄ used₄
     looks₄ =
         home-looks (n .name) a {s = s₃} looks₃ answered₄
-        (ap (λ (x : Home). house.after x (houseTicket (s .home) a) (houseAsking (s .box a) v) digest₁) (looks₃ .home)
-        ∙ house-after (house.drew (s .home)) a v (keyOf (s .home .left)) (numberOf (drop 32 (s .box a .left))) (untilOf (s .home)) (s .box a .now) digest₁ fine₄)
+        (ap (λ (x : Home). house.after x ticket₁ asking₁ digest₁) (looks₃ .home)
+        ∙ house-after h₁ a v k₁ m₂ (untilOf h) (b .now) digest₁ fine₄)
 
-    can₄ : Can c n s₃ (asksHouse (houseTicket (s .home) a) (houseAsking (s .box a) v))
+    can₄ : Can c n s₃ (asksHouse ticket₁ asking₁)
     can₄ =
         record {
             ticket =
-                subst (λ (x : List Term). Gets x (ticketTerm (n .name) (s₃ .home .key) (houseTicket (s .home) a))) (sym (looks₃ .air-is))
-                (has (List·Memᴰ·tail (List·Memᴰ·head (ap (λ (x : Home). ticketTerm (n .name) (x .key) (houseTicket (s .home) a)) (looks₃ .home)))));
+                subst (λ (x : List Term). Gets x (ticketTerm (n .name) (s₃ .home .key) ticket₁)) (sym (looks₃ .air-is))
+                (has (List·Memᴰ·tail (List·Memᴰ·head (ap (λ (x : Home). ticketTerm (n .name) (x .key) ticket₁) (looks₃ .home)))));
             asking =
-                subst (λ (x : List Term). Gets x (askingTerm (n .name) (keyOf (s .home .left)) (houseAsking (s .box a) v))) (sym (looks₃ .air-is))
+                subst (λ (x : List Term). Gets x (askingTerm (n .name) k₁ asking₁)) (sym (looks₃ .air-is))
                 (has (List·Memᴰ·head refl));
             new =
                 subst (λ (x : Reply). New c n s₃ (replyDrawn x)) (sym answered₄)
-                (subst (λ (x : List Bytes). n .name (keyOf (drop 64 (s .home .left)) .0) ≡ even (suc (length x))) (sym (looks₃ .used-is)) (r .draws .1 .1 .1 .0))
+                (subst (λ (x : List Bytes). n .name (k₂ .0) ≡ even (suc (length x))) (sym (looks₃ .used-is)) (r .draws .1 .1 .1 .0))
         }
 
     -- 5: the letter for the service
-    pending₅ : letter.pendingFor (box₂ (s .box a) (s .home) v w) (Session (keyOf (s .home .left))) (serviceLetter (s .box a) (s .home) v)
-        ≡ Some (record { number = numberOf (drop 32 (s .box a .left)); key = keyOf (s .home .left); asks = 0; line = line′ (s .box a) v w })
+    pending₅ : letter.pendingFor b₂ (Session k₁) letter₂
+        ≡ Some (record { number = m₂; key = k₁; asks = 0; line = theLine })
     pending₅ =
-        oldest-newest (AtHouse (keyOf (s .home .left)) (numberOf (drop 32 (s .box a .left))) v) (record { number = numberOf (drop 32 (s .box a .left)); key = keyOf (s .home .left); asks = 0; line = line′ (s .box a) v w }) (take 15 (s .box a .askings))
-        (and-from (sameBytes (keyOf (s .home .left) .0) (keyOf (s .home .left) .0)) (sameBytes (numberOf (drop 32 (s .box a .left)) .0) (numberOf (drop 32 (s .box a .left)) .0) && eqb v v) (same-refl (keyOf (s .home .left) .0))
-        (and-from (sameBytes (numberOf (drop 32 (s .box a .left)) .0) (numberOf (drop 32 (s .box a .left)) .0)) (eqb v v) (same-refl (numberOf (drop 32 (s .box a .left)) .0)) (eq-eqb v v refl)))
+        oldest-newest (AtHouse k₁ m₂ v) (record { number = m₂; key = k₁; asks = 0; line = theLine }) (take 15 (b .askings))
+        (and-from (sameBytes (k₁ .0) (k₁ .0)) (sameBytes (m₂ .0) (m₂ .0) && eqb v v) (same-refl (k₁ .0))
+        (and-from (sameBytes (m₂ .0) (m₂ .0)) (eqb v v) (same-refl (m₂ .0)) (eq-eqb v v refl)))
         (λ p m.
-          and-right (eqb (p .asks) 0) _ (and-right (sameBytes (p .key .0) (keyOf (s .home .left) .0)) _ (and-left (sameBytes (p .number .0) (numberOf (drop 32 (s .box a .left)) .0)) (eqb (p .line .service) v)
-          (not-under-way c n (length (s .used)) (suc (length used₂)) (take 15 (s .box a .askings)) (numberOf (drop 32 (s .box a .left)) .0)
-          (below-take c n (length (s .used)) 15 (s .box a .askings) (o .boxes a .askings)) (r .draws .1 .1 .0) (omega arith) p m))))
+          and-right (eqb (p .asks) 0) _ (and-right (sameBytes (p .key .0) (k₁ .0)) _ (and-left (sameBytes (p .number .0) (m₂ .0)) (eqb (p .line .service) v)
+          (not-under-way c n (length (s .used)) (suc (length used₂)) (take 15 (b .askings)) (m₂ .0)
+          (below-take c n (length (s .used)) 15 (b .askings) (o .boxes a .askings)) (r .draws .1 .1 .0) (omega arith) p m))))
 
-    taken₅ : letter.taken (s₄ .box a) (Session (keyOf (s .home .left))) (serviceLetter (s .box a) (s .home) v)
-        ≡ told.Takes (record { id = s .box a .taken + 1 + 1; service = v; until = untilOf (s .home) }) (askingOf (box₂ (s .box a) (s .home) v w) (keyOf (drop 64 (s .home .left))) v (line′ (s .box a) v w))
+    taken₅ : letter.taken (s₄ .box a) (Session k₁) letter₂
+        ≡ told.Takes (record { id = b .taken + 1 + 1; service = v; until = untilOf h }) (askingOf b₂ k₂ v theLine)
     taken₅ =
-        ap (λ (x : Box). letter.taken x (Session (keyOf (s .home .left))) (serviceLetter (s .box a) (s .home) v)) (looks₄ .box)
-        ∙ letter-answer (box₂ (s .box a) (s .home) v w) (Session (keyOf (s .home .left))) (serviceLetter (s .box a) (s .home) v) _ pending₅ drawn₃ (r .box-at-work .tickets)
+        ap (λ (x : Box). letter.taken x (Session k₁) letter₂) (looks₄ .box)
+        ∙ letter-answer b₂ (Session k₁) letter₂ _ pending₅ drawn₃ (r .box-at-work .tickets)
 
     -- what is asked is the line's words, at the line's tick
-    asking₅ : askingOf (box₂ (s .box a) (s .home) v w) (keyOf (drop 64 (s .home .left))) v (line′ (s .box a) v w) .inside ≡ serviceAsking (s .box a) v w
+    asking₅ : askingOf b₂ k₂ v theLine .inside ≡ asking₂
     asking₅ =
-        ap (λ (e : Bool). record { service = v; number = numberOf (drop 32 (drop 32 (s .box a .left))); what = cond e (twoBytes v) w; tick = cond e (s .box a .now) (s .box a .now) }) not-house
+        ap (λ (e : Bool). record { service = v; number = m₃; what = cond e (twoBytes v) w; tick = cond e (b .now) (b .now) }) not-house
 
     air-is₅ : s₅ .air ≡ air₅
     air-is₅ =
         ap (λ (x : Told.Answer). toldSent (n .name) x ++ s₄ .air) taken₅
-        ∙ (ap (λ (x : Asking). askingTerm (n .name) (keyOf (drop 64 (s .home .left))) x ∷ s₄ .air) asking₅
-        ∙ ap (λ (x : List Term). askingTerm (n .name) (keyOf (drop 64 (s .home .left))) (serviceAsking (s .box a) v w) ∷ x) (looks₄ .air-is))
+        ∙ (ap (λ (x : Asking). askingTerm (n .name) k₂ x ∷ s₄ .air) asking₅
+        ∙ ap (λ (x : List Term). askingTerm (n .name) k₂ asking₂ ∷ x) (looks₄ .air-is))
 
-    can₅ : Can c n s₄ (takes a (Session (keyOf (s .home .left))) (serviceLetter (s .box a) (s .home) v))
+    can₅ : Can c n s₄ (takes a (Session k₁) letter₂)
     can₅ =
         record {
             reader = r .reader;
             letter-heard =
-                subst (λ (x : List Term). Gets x (letterTerm (n .name) (keyOf (s .home .left)) (serviceLetter (s .box a) (s .home) v))) (sym (looks₄ .air-is))
+                subst (λ (x : List Term). Gets x (letterTerm (n .name) k₁ letter₂)) (sym (looks₄ .air-is))
                 (has (List·Memᴰ·tail (List·Memᴰ·head refl)));
             new =
                 subst (λ (x : Told.Answer). New c n s₄ (toldDrawn x)) (sym taken₅)
-                (subst (λ (x : List Bytes). n .name (numberOf (drop 32 (drop 32 (s .box a .left))) .0) ≡ even (suc (length x))) (sym (looks₄ .used-is)) (r .draws .1 .1 .1 .1 .0))
+                (subst (λ (x : List Bytes). n .name (m₃ .0) ≡ even (suc (length x))) (sym (looks₄ .used-is)) (r .draws .1 .1 .1 .1 .0))
         }
 
     -- 6: the asking to the service
     abbrev digest₂ : ℕ
-    digest₂ = c .digest (keyOf (drop 64 (s .home .left))) (numberOf (drop 32 (drop 32 (s .box a .left))))
+    digest₂ = c .digest k₂ m₃
 
-    fine₆ : ServiceFine (s .side v) a v (untilOf (s .home)) (s .box a .now) digest₂
+    fine₆ : ServiceFine (s .side v) a v (untilOf h) (b .now) digest₂
     fine₆ =
         record {
             somebody = reader-there;
@@ -335,42 +385,63 @@ module _ (c : Setting) (n : Naming (c .own)) (s : System) (a v : ℕ) (w : What)
             writes = r .at-work .writes
         }
 
-    answered₆ : service.answered (s₅ .side v) (serviceTicket (s .home) a v) (serviceAsking (s .box a) v w) digest₂
-        ≡ Done (service.deedOf (serviceTicket (s .home) a v) (serviceAsking (s .box a) v w)) (service.receiptOf (s .side v) (serviceTicket (s .home) a v) (serviceAsking (s .box a) v w))
-    answered₆ = service-answer (s .side v) a v (keyOf (drop 64 (s .home .left))) (numberOf (drop 32 (drop 32 (s .box a .left)))) w (untilOf (s .home)) (s .box a .now) digest₂ fine₆
+    answered₆ : service.answered (s₅ .side v) ticket₂ asking₂ digest₂
+        ≡ Done (service.deedOf ticket₂ asking₂) (service.receiptOf (s .side v) ticket₂ asking₂)
+    answered₆ = service-answer (s .side v) a v k₂ m₃ w (untilOf h) (b .now) digest₂ fine₆
 
-    can₆ : Can c n s₅ (asks v (serviceTicket (s .home) a v) (serviceAsking (s .box a) v w))
+    can₆ : Can c n s₅ (asks v ticket₂ asking₂)
     can₆ =
         record {
             a-service = eqb-false v 0 not-house;
             there = o .accounts v (r .service-known) .there;
             ticket =
-                subst (λ (x : List Term). Gets x (ticketTerm (n .name) (ownOf (c .own) v) (serviceTicket (s .home) a v))) (sym air-is₅)
-                (has (List·Memᴰ·tail (List·Memᴰ·head (ap (λ (k : Key). ticketTerm (n .name) k (serviceTicket (s .home) a v)) (sym (o .accounts v (r .service-known) .own))))));
+                subst (λ (x : List Term). Gets x (ticketTerm (n .name) (ownOf (c .own) v) ticket₂)) (sym air-is₅)
+                (has (List·Memᴰ·tail (List·Memᴰ·head (ap (λ (k : Key). ticketTerm (n .name) k ticket₂) (sym (o .accounts v (r .service-known) .own))))));
             asking =
-                subst (λ (x : List Term). Gets x (askingTerm (n .name) (keyOf (drop 64 (s .home .left))) (serviceAsking (s .box a) v w))) (sym air-is₅)
+                subst (λ (x : List Term). Gets x (askingTerm (n .name) k₂ asking₂)) (sym air-is₅)
                 (has (List·Memᴰ·head refl))
         }
 
+    -- all that was sent; own: the keys of the account of a, and of v, and of the box
+    abbrev sentBy : (own-a own-v own-b : Key) → List Term
+    sentBy x y z =
+        receiptTerm (n .name) k₂ (record { number = m₃ })
+        ∷ askingTerm (n .name) k₂ asking₂
+        ∷ ticketTerm (n .name) y ticket₂
+        ∷ letterTerm (n .name) k₁ letter₂
+        ∷ askingTerm (n .name) k₁ asking₁
+        ∷ ticketTerm (n .name) (h .key) ticket₁
+        ∷ letterTerm (n .name) x letter₁
+        ∷ loginTerm (n .name) z login₁
+        ∷ s .air
+
+    air-is₆ : s₆ .air ≡ sixSent c n s a v w ++ s .air
+    air-is₆ =
+        ap (λ (x : Answer). answerSent (n .name) x ++ s₅ .air) answered₆
+        ∙ (ap (λ (x : List Term). receiptTerm (n .name) k₂ (record { number = m₃ }) ∷ x) air-is₅
+        ∙ (ap (λ (x : Key). sentBy x (ownKey (h .accounts) v) (b .key)) (o .accounts a (r .known) .own)
+        ∙ (ap (λ (y : Key). sentBy (ownOf (c .own) a) y (b .key)) (o .accounts v (r .service-known) .own)
+        ∙ ap (λ (z : Key). sentBy (ownOf (c .own) a) (ownOf (c .own) v) z) (o .boxes a .key-is))))
+
     -- nothing else is changed
-    house-same : s₆ .home .side ≡ s .home .side
+    house-same : s₆ .home .side ≡ h .side
     house-same = ap (λ (h : Home). h .side) (looks₄ .home)
 
-    accounts-same : s₆ .home .accounts ≡ s .home .accounts
+    accounts-same : s₆ .home .accounts ≡ h .accounts
     accounts-same = ap (λ (h : Home). h .accounts) (looks₄ .home)
 
     sides-same : (j : ℕ) → s₆ .side j .side ≡ s .side j .side
     sides-same j =
-        at-either (λ (i : ℕ) (x : View). x .side ≡ s .side i .side) v (service.after (s .side v) (serviceTicket (s .home) a v) (serviceAsking (s .box a) v w) digest₂) (s .side)
-        (unless-either (λ (x : View). x .side ≡ s .side v .side) (firstFault (service.conditions (s .side v) (serviceTicket (s .home) a v) (serviceAsking (s .box a) v w) digest₂)) (service.doneBy (s .side v) digest₂) (λ _. s .side v) refl (λ _. refl)) j refl
+        at-either (λ (i : ℕ) (x : View). x .side ≡ s .side i .side) v (service.after (s .side v) ticket₂ asking₂ digest₂) (s .side)
+        (unless-either (λ (x : View). x .side ≡ s .side v .side) (firstFault (service.conditions (s .side v) ticket₂ asking₂ digest₂)) (service.doneBy (s .side v) digest₂) (λ _. s .side v) refl (λ _. refl)) j refl
 
     -- the line and the deed
     abbrev lineAt : (p t : ℕ) → List Wanted
     lineAt p t = record { place = p; reader = a; service = v; what = wordsOf w; at = t } ∷ []
 
-    line-told : (p : ℕ) → lineTold (line.wanted (s .box a) v None w) (record { place = p; reader = a; service = v; what = wordsOf w; at = s .box a .now }) ≡ wantedLine s p a v w ∷ []
+    line-told : (p : ℕ) → lineTold (line.wanted b v None w) (record { place = p; reader = a; service = v; what = wordsOf w; at = b .now }) ≡ wantedLine s p a v w ∷ []
     line-told p =
-        ap (λ (x : Told.Answer). lineTold x (record { place = p; reader = a; service = v; what = wordsOf w; at = s .box a .now })) wanted₁
+        ap (λ (x : Told.Answer). lineTold x (record { place = p; reader = a; service = v; what = wordsOf w; at = b .now })) wanted₁
         ∙ ap (λ (t : ℕ). lineAt p t) (o .boxes a .now-is)
 
     abbrev deedAt : (p t : ℕ) → List Deed
@@ -379,8 +450,8 @@ module _ (c : Setting) (n : Naming (c .own)) (s : System) (a v : ℕ) (w : What)
             place = p;
             service = v;
             reader = a;
-            key = keyOf (drop 64 (s .home .left)) .0;
-            number = numberOf (drop 32 (drop 32 (s .box a .left))) .0;
+            key = k₂ .0;
+            number = m₃ .0;
             what = wordsOf w;
             at = t;
             stolen = s .stolen
@@ -388,11 +459,11 @@ module _ (c : Setting) (n : Naming (c .own)) (s : System) (a v : ℕ) (w : What)
         ∷ []
 
     deed-told : (p q : ℕ) → p ≡ q + 5
-        → deedTold (service.answered (s₅ .side v) (serviceTicket (s .home) a v) (serviceAsking (s .box a) v w) digest₂) p v (s₅ .side v .side .now) (s₅ .stolen) ≡ newDeed s q a v w ∷ []
+        → deedTold (service.answered (s₅ .side v) ticket₂ asking₂ digest₂) p v (s₅ .side v .side .now) (s₅ .stolen) ≡ newDeed s q a v w ∷ []
     deed-told p q e =
         ap (λ (x : Answer). deedTold x p v (s .side v .side .now) (s .stolen)) answered₆
         ∙ (ap (λ (t : ℕ). deedAt p t) (o .sides v .now-is)
-        ∙ ap (λ (i : ℕ). deedAt i (s .home .side .now)) e)
+        ∙ ap (λ (i : ℕ). deedAt i (h .side .now)) e)
 
 module _ (c : Setting) (n : Naming (c .own)) where
   pub served : Served c n
@@ -404,6 +475,7 @@ module _ (c : Setting) (n : Naming (c .own)) where
           possible = all;
           deed = ap (λ (x : List Deed). x ++ deeds c n t es) (deed-told c n s a v w o r (suc (suc (suc (suc (suc (length es)))))) (length es) (omega arith));
           line = ap (λ (x : List Wanted). x ++ lines c n t es) (line-told c n s a v w o r (length es));
+          sent = air-is₆ c n s a v w o r;
           same =
               record {
                   stolen = refl;

@@ -6,6 +6,7 @@ use mathlib.Core.List.{List, [], _∷_, _++_}
 use Prim.Native.Nat.{ℕ, _+_, _*_}
 use lib.ListN.{getD, replicate}
 use Rattle.std.specs.declared.option.Option.the-variants.{None}
+use Rattle.parts.specs.declared.fault.Fault.the-variants.{DoneBefore, NotNow}
 use Rattle.parts.specs.declared.word.Asking.{Asking}
 use Rattle.parts.specs.declared.word.Key.{Key}
 use Rattle.parts.specs.declared.word.Letter.{Letter}
@@ -13,13 +14,18 @@ use Rattle.parts.specs.declared.word.Login.{Login}
 use Rattle.parts.specs.declared.word.Number.{Number}
 use Rattle.parts.specs.declared.word.Ticket.{Ticket}
 use Rattle.parts.specs.declared.word.What.{What}
+use Rattle.service_rules.specs.Service.{answered}
+use Rattle.service_rules.specs.declared.answer.Answer.{Answer}
+use Rattle.service_rules.specs.declared.answer.Answer.the-variants.{Refused}
 use Rattle.service_rules.specs.declared.held.Cut.the-variants.{Junk}
+use Rattle.house_rules.specs.Account.{closed}
 use Rattle.box_rules.specs.Chest.{twoBytes}
 use Rattle.box_rules.specs.declared.line.Under.the-variants.{Own as OwnKey, Session}
 use Rattle.rows.specs.Name.{Bytes, Naming}
 use Rattle.rows.specs.Setting.{Setting}
-use Rattle.rows.specs.System.{Act, House, Service, Reader, tells, hands, steals, opens, closes, wants, logsIn, asksHouse, asks, takes, crashes, Possible}
+use Rattle.rows.specs.System.{Act, House, Service, Reader, tells, hands, steals, opens, closes, wants, logsIn, asksHouse, asks, takes, crashes, Possible, run}
 use Rattle.rows.specs.Row.{Wanted, Deed, lines, deeds}
+use Rattle.rows.specs.Served.{Ready}
 
 -- an own key of one byte
 abbrev pub key : ℕ → Key
@@ -76,11 +82,10 @@ before =
     ∷ opens 1 (key 2) true
     ∷ []
 
--- the service crashes, and waits from tick 10 to 15; at 15 the reader's line, and the asking that is refused
-abbrev pub waited : List Act
-waited =
-    asks 2 serviceTicket serviceAsking
-    ∷ takes 1 (Session (sessionKey 21)) serviceLetter
+-- the service crashes, and waits from tick 10 to 15; at 15 the reader's line, up to the asking
+abbrev pub begun : List Act
+begun =
+    takes 1 (Session (sessionKey 21)) serviceLetter
     ∷ asksHouse houseTicket houseAsking
     ∷ takes 1 OwnKey houseLetter
     ∷ logsIn 1 login
@@ -89,16 +94,22 @@ waited =
     ∷ crashes (Service 2) Junk
     ∷ before
 
--- at 16 the same asking is done, and refused when it comes again; then a closing, a theft, and the tick goes on
+-- the asking is refused; at 16 it is done
+abbrev pub served : List Act
+served =
+    asks 2 serviceTicket serviceAsking
+    ∷ tells 16
+    ∷ asks 2 serviceTicket serviceAsking
+    ∷ begun
+
+-- it is refused when it comes again; then a closing, a theft, and the tick goes on
 abbrev pub happens : List Act
 happens =
     tells 20
     ∷ steals 3
     ∷ closes 1 true
     ∷ asks 2 serviceTicket serviceAsking
-    ∷ asks 2 serviceTicket serviceAsking
-    ∷ tells 16
-    ∷ waited
+    ∷ served
 
 -- the one line, and the one deed
 abbrev pub wanted : Wanted
@@ -116,9 +127,21 @@ done = record {
   stolen = []
 }
 
--- with a naming of the keys and numbers this row can happen, and it tells just that line and that deed
+module _ (n : Naming (setting .own)) where
+  -- what the service answers to the asking after these acts
+  abbrev pub answerAfter : List Act → Answer
+  answerAfter es = answered (run setting n 10 es .side 2) serviceTicket serviceAsking (setting .digest (serviceTicket .key) (serviceAsking .number))
+
+-- with a naming of the keys and numbers this row can happen, and it tells just that line and that deed;
+-- and before the crash the reader was ready, so that the six acts would have served at once
 pub record CanHappen : Type 0 where
   pub naming : Naming (setting .own)
   pub possible : Possible setting naming 10 happens
   pub deed : deeds setting naming 10 happens ≡ done ∷ []
   pub line : lines setting naming 10 happens ≡ wanted ∷ []
+  pub waits : answerAfter naming begun ≡ Refused NotNow
+  pub again : answerAfter naming served ≡ Refused DoneBefore
+  pub is-closed : closed (run setting naming 10 happens .home .accounts) 1 ≡ true
+  pub stolen : run setting naming 10 happens .stolen ≡ 3 ∷ []
+  pub before-possible : Possible setting naming 10 before
+  pub ready : Ready setting naming (run setting naming 10 before) 1 2 words

@@ -2,6 +2,7 @@
 --
 -- firstLogin .. serviceAsking    what the six acts bring: the code's own answers, by the drawn bytes that are left
 -- sixCalls s a v w               the six acts by which reader a is served by v with words w, in system s
+-- sixSent s a v w                what is sent by them
 -- Ready s a v w                  what the six acts need
 -- Same s s′                      nothing was stolen, opened or closed, and no tick was told
 -- Served                         in every row that can happen, whoever is ready is served, at the same tick, and nothing else is done
@@ -25,8 +26,8 @@ use Rattle.house_rules.specs.House.{Home, untilOf}
 use Rattle.box_rules.specs.Chest.{twoBytes}
 use Rattle.box_rules.specs.declared.line.Under.the-variants.{Own as OwnKey, Session}
 use Rattle.tickets.specs.Term.{Term, even}
-use Rattle.rows.specs.Name.{Bytes, Naming}
-use Rattle.rows.specs.Word.{wordsOf}
+use Rattle.rows.specs.Name.{Bytes, Naming, ownOf}
+use Rattle.rows.specs.Word.{wordsOf, ticketTerm, letterTerm, askingTerm, loginTerm, receiptTerm}
 use Rattle.rows.specs.Setting.{Setting}
 use Rattle.rows.specs.System.{System, Box, Act, wants, logsIn, asksHouse, asks, takes, Alone, Possible, run}
 use Rattle.rows.specs.Row.{Wanted, Deed, lines, deeds}
@@ -147,11 +148,25 @@ module _ (c : Setting) (n : Naming (c .own)) where
     pub house-digest : stands (c .digest (keyOf (s .home .left)) (numberOf (drop 32 (s .box a .left)))) (liveOf (s .home .side .now) (s .home .side .lag) (s .home .kept)) ≡ false
     pub digest : stands (c .digest (keyOf (drop 64 (s .home .left))) (numberOf (drop 32 (drop 32 (s .box a .left))))) (liveOf (s .side v .side .now) (s .side v .side .lag) (s .side v .kept)) ≡ false
 
+  -- what is sent by the six acts, the newest first: just the words that the later ones of them bring, and a receipt
+  abbrev pub sixSent : System → (a v : ℕ) → What → List Term
+  sixSent s a v w =
+      receiptTerm (n .name) (serviceTicket (s .home) a v .key) (record { number = serviceAsking (s .box a) v w .number })
+      ∷ askingTerm (n .name) (serviceTicket (s .home) a v .key) (serviceAsking (s .box a) v w)
+      ∷ ticketTerm (n .name) (ownOf (c .own) v) (serviceTicket (s .home) a v)
+      ∷ letterTerm (n .name) (houseTicket (s .home) a .key) (serviceLetter (s .box a) (s .home) v)
+      ∷ askingTerm (n .name) (houseTicket (s .home) a .key) (houseAsking (s .box a) v)
+      ∷ ticketTerm (n .name) (s .home .key) (houseTicket (s .home) a)
+      ∷ letterTerm (n .name) (ownOf (c .own) a) (houseLetter (s .box a) (s .home))
+      ∷ loginTerm (n .name) (ownOf (c .own) a) (firstLogin (s .box a))
+      ∷ []
+
   -- how the six acts end, upon a row
   pub record Ends (t : ℕ) (es : List Act) (a v : ℕ) (w : What) : Type 0 where
     pub possible : Possible c n t (sixCalls (run c n t es) a v w ++ es)
     pub deed : deeds c n t (sixCalls (run c n t es) a v w ++ es) ≡ newDeed (run c n t es) (length es) a v w ∷ deeds c n t es
     pub line : lines c n t (sixCalls (run c n t es) a v w ++ es) ≡ wantedLine (run c n t es) (length es) a v w ∷ lines c n t es
+    pub sent : run c n t (sixCalls (run c n t es) a v w ++ es) .air ≡ sixSent (run c n t es) a v w ++ run c n t es .air
     pub same : Same (run c n t es) (run c n t (sixCalls (run c n t es) a v w ++ es))
 
   abbrev pub Served : Type 0
