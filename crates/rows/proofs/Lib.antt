@@ -12,3 +12,7 @@ pub mod Tables
 pub mod Wanting
 pub mod Taking
 pub mod Promises
+pub mod ServedSteady
+pub mod ServedActs
+pub mod ServedRow
+pub mod HappensRow

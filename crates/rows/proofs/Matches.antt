@@ -20,8 +20,14 @@ use Rattle.tickets.proofs.Known.{Grows}
 use Rattle.rows.specs.Name.{Bytes, Naming, ownOf, spell}
 use Rattle.rows.specs.Word.{wordsOf}
 use Rattle.rows.specs.Setting.{Setting, rulesOf}
-use Rattle.rows.specs.System.{System, Box}
+use Rattle.rows.specs.System.{System, Box, box-now}
+use Rattle.box_rules.specs.Chest.{setTick as boxTick}
+use Rattle.parts.specs.declared.tick.Ticked.{Ticked}
 use Rattle.rows.proofs.Noting.{Notes, notes-later}
+
+-- a box at the tick that it was told
+abbrev pub toldBox : Box → ℕ → Ticked → Box
+toldBox b to k = box-now (boxTick b to k) b
 
 module _ (c : Setting) (n : Naming (c .own)) where
   -- an account was closed by now

@@ -15,9 +15,9 @@ use Rattle.parts.specs.declared.account.Entry.{Entry}
 use Rattle.parts.specs.declared.word.Key.{Key}
 use Rattle.parts.specs.declared.word.Number.{Number}
 use Rattle.service_rules.specs.Memory.{liveOf, stands, recorded}
-use Rattle.service_rules.specs.Crash.{reread, rejunk, fits}
-use Rattle.service_rules.specs.declared.held.Cut.{Cut}
-use Rattle.service_rules.specs.declared.held.Cut.the-variants.{Junk, New, Old}
+use Rattle.held.specs.Crash.{reread, rejunk, fits}
+use Rattle.held.specs.declared.memory.Cut.{Cut}
+use Rattle.held.specs.declared.memory.Cut.the-variants.{Junk, New, Old}
 use Rattle.service_rules.specs.declared.side.Side.{Side}
 use Rattle.tickets.specs.State.{Done, State, Lately}
 use Rattle.tickets.specs.Event.{DoneBefore}

@@ -21,7 +21,7 @@ use Rattle.service_rules.specs.Side.{onTick, setTick, unfit}
 use Rattle.service_rules.specs.declared.side.Side.{Side}
 use Rattle.parts.specs.declared.fault.Fault.the-variants.{OutOfRange}
 use Rattle.std.specs.declared.result.Result.the-variants.{Ok, Err}
-use Rattle.service_rules.specs.declared.held.Cut.{Cut}
+use Rattle.held.specs.declared.memory.Cut.{Cut}
 use Rattle.house_rules.specs.House.{Home}
 use Rattle.tickets.specs.Term.{Term, Own}
 use Rattle.tickets.specs.State.{Rules, Line, Stage, Wish, Done, Closing, State, isIn}
@@ -34,7 +34,7 @@ use Rattle.tickets.proofs.Steps.{reached, change}
 use Rattle.tickets.proofs.Bools.{clash, either}
 use Rattle.rows.specs.Name.{Bytes, Naming, ownOf}
 use Rattle.rows.specs.Setting.{Setting, Writing, rulesOf}
-use Rattle.rows.specs.System.{System, Box, at, with-home, with-side, with-box, home-side, home-left, home-memory, box-left, box-now, emptyBox, toldBox, crashedView, crashedHome, viewOf, restarted}
+use Rattle.rows.specs.System.{System, Box, at, with-home, with-side, with-box, home-side, home-left, home-memory, box-left, box-now, emptyBox, crashedView, crashedHome, viewOf, restarted}
 use Rattle.rows.specs.Row.{Wanted, Deed, Given, Begun, Taken}
 use Rattle.rows.proofs.Pairs.{At, down-more}
 use Rattle.rows.proofs.Noting.{Notes, notes-later, notes-again}

@@ -111,12 +111,14 @@ module _ (c : Setting) (n : Naming (c .own)) {K : List Closing} {p : ℕ} {s : S
         subst (λ (y : ℕ). Safe (rulesOf c n) (q .stolen) y 0) (sym reader) (subst (λ (y : List ℕ). Safe (rulesOf c n) y a 0) (sym (stolen ∙ o .matches .net .stolen)) safe)
         in
         let m = main (rulesOf c n) (ev ∷ o .events) t reach .fresh q known-q w in
-        let mk = m .0 in
-        let u = m .1 in
+        let came = m .1 in
+        let mk = m .2 in
+        let u = m .3 in
+        let same-since : m .0 .since ≡ x .since = came .same-since ∙ since in
         let k = pairs-at (o .keys) mk (subst (λ (y : List Key). List·Memᴰ mk y) made (u .known)) in
         let b = pairs-at (o .begun) x known in
         let g-key : k .0 .key ≡ l .key .0 = n .apart _ _ (sym (k .2 .key) ∙ sym (u .same-key) ∙ key) in
-        let g-number : k .0 .number ≡ l .number .0 = n .apart _ _ (sym (k .2 .number) ∙ u .same-number ∙ ap (λ (y : ℕ). even y) upon ∙ sym number) in
+        let g-number : k .0 .number ≡ l .number .0 = n .apart _ _ (sym (k .2 .number) ∙ u .same-number ∙ ap (λ (y : ℕ). even y) (came .same-number ∙ upon) ∙ sym number) in
         let b-number : b .0 .number ≡ l .number .0 = n .apart _ _ (sym (b .2 .number) ∙ sym number) in (
           k .0,
           at-first (k .1),

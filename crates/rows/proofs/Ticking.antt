@@ -13,6 +13,7 @@ use Rattle.parts.specs.declared.tick.Ticked.the-variants.{On, Back, Stopped}
 use Rattle.service_rules.specs.Service.{View, view}
 use Rattle.service_rules.specs.Side.{onTick, setTick}
 use Rattle.house_rules.specs.House.{Home}
+use Rattle.box_rules.specs.Chest.{boxOnTick}
 use Rattle.tickets.specs.State.{Rules, Closing, Done, State}
 use Rattle.tickets.specs.Event.{Event, after, Reach}
 use Rattle.tickets.specs.Event
@@ -20,11 +21,11 @@ use Rattle.tickets.proofs.Bools.{clash}
 use Rattle.tickets.proofs.Known.{Grows}
 use Rattle.rows.specs.Name.{Naming}
 use Rattle.rows.specs.Setting.{Setting, rulesOf}
-use Rattle.rows.specs.System.{System, Box, home-side, box-now, toldBox}
+use Rattle.rows.specs.System.{System, Box, home-side}
 use Rattle.rows.specs.Row.{Wanted, Deed, Given, Begun, Taken}
 use Rattle.rows.proofs.Pairs.{down-more}
 use Rattle.rows.proofs.Noting.{notes-later}
-use Rattle.rows.proofs.Matches.{Matches, HomeOk, SideOk, BoxOk, PendingOk, TicketOk, ClosedBy, pending-stays, ticket-stays}
+use Rattle.rows.proofs.Matches.{toldBox, Matches, HomeOk, SideOk, BoxOk, PendingOk, TicketOk, ClosedBy, pending-stays, ticket-stays}
 use Rattle.rows.proofs.Tied.{Tied, unseen, deeds-stay}
 
 -- the model after so many ticks
@@ -77,7 +78,7 @@ module _ (c : Setting) (n : Naming (c .own)) {K : List Closing} {p : ℕ} {s : S
       (record {
         home = home-side (onTick (s .home .side) to) (s .home);
         side = λ v. view (onTick (s .side v .side) to) (s .side v .kept) (s .side v .junk) (s .side v .writes) (s .side v .left);
-        box = λ a. toldBox (s .box a) to (clock (s .box a .now) to);
+        box = λ a. boxOnTick (s .box a) to;
         air = s .air;
         used = s .used;
         stolen = s .stolen;
@@ -157,7 +158,7 @@ module _ (c : Setting) (n : Naming (c .own)) {K : List Closing} {p : ℕ} {s : S
         (record {
           home = home-side (onTick (s .home .side) to) (s .home);
           side = λ v. view (onTick (s .side v .side) to) (s .side v .kept) (s .side v .junk) (s .side v .writes) (s .side v .left);
-          box = λ a. toldBox (s .box a) to (clock (s .box a .now) to);
+          box = λ a. boxOnTick (s .box a) to;
           air = s .air;
           used = s .used;
           stolen = s .stolen;
@@ -190,7 +191,7 @@ module _ (c : Setting) (n : Naming (c .own)) {K : List Closing} {p : ℕ} {s : S
       (record {
         home = home-side (onTick (s .home .side) to) (s .home);
         side = λ v. view (onTick (s .side v .side) to) (s .side v .kept) (s .side v .junk) (s .side v .writes) (s .side v .left);
-        box = λ a. toldBox (s .box a) to (clock (s .box a .now) to);
+        box = λ a. boxOnTick (s .box a) to;
         air = s .air;
         used = s .used;
         stolen = s .stolen;
@@ -202,7 +203,7 @@ module _ (c : Setting) (n : Naming (c .own)) {K : List Closing} {p : ℕ} {s : S
           (record {
             home = home-side (onTick (s .home .side) to) (s .home);
             side = λ v. view (onTick (s .side v .side) to) (s .side v .kept) (s .side v .junk) (s .side v .writes) (s .side v .left);
-            box = λ a. toldBox (s .box a) to (clock (s .box a .now) to);
+            box = λ a. boxOnTick (s .box a) to;
             air = s .air;
             used = s .used;
             stolen = s .stolen;

@@ -3,3 +3,5 @@ pub mod Word
 pub mod Setting
 pub mod System
 pub mod Row
+pub mod Served
+pub mod Happens

@@ -3,8 +3,8 @@ use mathlib.Core.List.{List}
 use Prim.Native.Nat.{ℕ, _≤_}
 use Rattle.parts.specs.declared.word.Key.{Key}
 use Rattle.parts.specs.declared.word.Number.{Number}
-use Rattle.service_rules.specs.declared.held.Cut.{Cut}
-use Rattle.service_rules.specs.declared.held.Cut.the-variants.{Junk, New, Old}
+use Rattle.held.specs.declared.memory.Cut.{Cut}
+use Rattle.held.specs.declared.memory.Cut.the-variants.{Junk, New, Old}
 use Rattle.tickets.specs.State.{Rules}
 use Rattle.rows.specs.Name.{Naming}
 

@@ -29,14 +29,14 @@ use Rattle.parts.specs.declared.word.What.{What}
 use Rattle.service_rules.specs.Service.{View, view}
 use Rattle.service_rules.specs.Service as service
 use Rattle.service_rules.specs.Side.{begun, onTick}
-use Rattle.service_rules.specs.Crash.{reread, rejunk}
-use Rattle.service_rules.specs.declared.held.Cut.{Cut}
+use Rattle.held.specs.Crash.{reread, rejunk}
+use Rattle.held.specs.declared.memory.Cut.{Cut}
 use Rattle.service_rules.specs.declared.side.Side.{Side}
 use Rattle.house_rules.specs.Account.{ownKey}
 use Rattle.house_rules.specs.Change.{openedAfter, shutAfter}
 use Rattle.house_rules.specs.House.{Home}
 use Rattle.house_rules.specs.House as house
-use Rattle.box_rules.specs.Chest.{Boxed}
+use Rattle.box_rules.specs.Chest.{Boxed, boxOnTick, fresh}
 use Rattle.box_rules.specs.Line as line
 use Rattle.box_rules.specs.Letter as letter
 use Rattle.box_rules.specs.declared.line.Under.{Under}
@@ -132,13 +132,7 @@ abbrev pub box-left : Bytes → Box → Box
 box-left bs b = record { number = b .number; key = b .key; now = b .now; lines = b .lines; taken = b .taken; logins = b .logins; tickets = b .tickets; askings = b .askings; left = bs }
 
 abbrev pub emptyBox : ℕ → Key → ℕ → Bytes → Box
-emptyBox a k t bs = record { number = a; key = k; now = t; lines = 0; taken = 0; logins = []; tickets = []; askings = []; left = bs }
-
--- a box that is told a tick
-abbrev pub toldBox : Box → ℕ → Ticked → Box
-toldBox b to On = box-now to b
-toldBox b to Back = b
-toldBox b to Stopped = b
+emptyBox a k t bs = fresh a t k bs
 
 -- a side that starts again, where it does
 abbrev pub restarted : Side → Result Side Fault → Side
@@ -164,7 +158,7 @@ module _ (c : Setting) (n : Naming (c .own)) where
   step (tells to) s = record {
     home = home-side (onTick (s .home .side) to) (s .home);
     side = λ v. view (onTick (s .side v .side) to) (s .side v .kept) (s .side v .junk) (s .side v .writes) (s .side v .left);
-    box = λ a. toldBox (s .box a) to (clock (s .box a .now) to);
+    box = λ a. boxOnTick (s .box a) to;
     air = s .air;
     used = s .used;
     stolen = s .stolen;

@@ -2,8 +2,10 @@
 // Nothing runs here: each function's contract is a theorem over lists of what happened, stated with the very definitions
 // that the contracts of the decisions cite.
 
+ghost use Rattle.rows.specs.Happens.{CanHappen};
 ghost use Rattle.rows.specs.Name.{DrawsNamed};
 ghost use Rattle.rows.specs.Row.{AskedOnce, Fresh, InEvery, IsRun, Kept, LoggedIn, Over};
+ghost use Rattle.rows.specs.Served.{Served};
 
 // Whatever a service does was asked, by that reader, of that service, in those words, once and just now.
 pub fn asked_once()
@@ -34,4 +36,14 @@ pub fn is_run()
 // Draws that are apart have names of their own.
 pub fn draws_named()
     ensures { λ _. ⌜ DrawsNamed ⌝ }
+{}
+
+// From every row whoever is ready is served by six acts.
+pub fn served()
+    ensures { λ _. ⌜ InEvery Served ⌝ }
+{}
+
+// What the promises rest on can be met: one row that meets all of it.
+pub fn can_happen()
+    ensures { λ _. ⌜ CanHappen ⌝ }
 {}
