@@ -73,14 +73,17 @@ pub data Outcome : Type 0 where
   -- the fault with this number
   Fails : (number : ℕ) → Outcome
 
+-- an answer of the house, by the ticket that goes out
 abbrev pub ofReply : Reply → Outcome
 ofReply (reply.Granted g t l) = Gives (t .inside .service) (t .inside .reader) (t .inside .until)
 ofReply (reply.Refused f) = Fails (faultNumber f)
 
+-- an answer of a service
 abbrev pub ofAnswer : Answer → Outcome
 ofAnswer (answer.Done d l) = Does (d .reader) (wordsOf (d .what)) (d .asked)
 ofAnswer (answer.Refused f) = Fails (faultNumber f)
 
+-- an answer of a box, by what it sends
 abbrev pub ofTold : Told.Answer → Outcome
 ofTold (told.LogsIn l) = LogsIn (l .inside .tick)
 ofTold (told.Asks i l) = Asks (l .inside .service) (l .inside .tick)
@@ -89,15 +92,18 @@ ofTold (told.Receipt i) = Confirms i
 ofTold (told.Shown k) = Happens
 ofTold (told.Wrong f) = Fails (faultNumber f)
 
+-- an answer to an opening or a closing
 abbrev pub ofChanged : Changed → Outcome
 ofChanged changed.Done = Changes
 ofChanged changed.Same = Stays
 ofChanged (changed.Refused f) = Fails (faultNumber f)
 
+-- a fault, if there is one
 abbrev pub ofFault : Option Fault → Outcome
 ofFault None = Happens
 ofFault (Some f) = Fails (faultNumber f)
 
+-- a tick is answered by the house; boxes and services go by the same clock
 abbrev pub outcome : Setting → System → Act → Outcome
 outcome c s (tells to) = ofFault (tickFault (clock (s .home .side .now) to))
 outcome c s (hands who bs) = Happens
@@ -170,6 +176,7 @@ ready c =
     ∷ hands (Service 8) (replicate 16 32)
     ∷ accounts c
 
+-- a login with this number
 abbrev pub login : (n tick : ℕ) → Login
 login n t = record { number = number n; tick = t }
 
@@ -276,6 +283,7 @@ threeBytes = record { service = 0; number = number 13; what = record { len = 3; 
 abbrev pub did : (asked : ℕ) → Outcome
 did t = Does 5 (7 ∷ 8 ∷ []) t
 
+-- the table
 abbrev pub faultCases : List Case
 faultCases =
     -- A: a ticket for the house until 1,100; at 200 one for 7 until 1,200; 7 does it at 200
@@ -405,7 +413,7 @@ faultCases =
     ∷ atHouse (rememberingHouse 8191 195) houseTicket (forService 7 13 200) 2 (Gives 7 5 1200)
     ∷ []
 
--- there is a way to name keys and numbers; and in each every row is answered as it says
+-- there is a way to name keys and numbers, and by each way every row is answered as it says
 pub record WorkedFaults : Type 0 where
   pub naming : (c : Setting) → Naming (c .own)
   pub answers : (n : (c : Setting) → Naming (c .own)) → map (answerOf n) faultCases ≡ map stated faultCases
