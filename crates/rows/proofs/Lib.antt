@@ -16,3 +16,4 @@ pub mod ServedSteady
 pub mod ServedActs
 pub mod ServedRow
 pub mod HappensRow
+pub mod FaultsRow

@@ -5,3 +5,4 @@ pub mod System
 pub mod Row
 pub mod Served
 pub mod Happens
+pub mod Faults

@@ -2,6 +2,7 @@
 // Nothing runs here: each function's contract is a theorem over lists of what happened, stated with the very definitions
 // that the contracts of the decisions cite.
 
+ghost use Rattle.rows.specs.Faults.{WorkedFaults};
 ghost use Rattle.rows.specs.Happens.{CanHappen};
 ghost use Rattle.rows.specs.Name.{DrawsNamed};
 ghost use Rattle.rows.specs.Row.{AskedOnce, Fresh, InEvery, IsRun, Kept, LoggedIn, Over};
@@ -46,4 +47,9 @@ pub fn served()
 // What the promises rest on can be met: one row that meets all of it.
 pub fn can_happen()
     ensures { λ _. ⌜ CanHappen ⌝ }
+{}
+
+// Worked cases with their faults by number: each row of the table is answered as it says.
+pub fn worked_faults()
+    ensures { λ _. ⌜ WorkedFaults ⌝ }
 {}
