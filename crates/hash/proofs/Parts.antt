@@ -4,9 +4,9 @@ use mathlib.Core.List.{List, [], _∷_, _++_, append-assoc, append-nil}
 use Prim.Native.Nat.{ℕ, zero, suc, _+_, _-_, _*_, _/_, _%_, _^_, _<_, _≤_}
 use native.Mathlib.Nat.{add-zero, add-suc, mod-add-mod}
 use native.Mathlib.Omega.{arith}
-use lib.ListN.{length, take, drop, length-append, length-drop}
-use Rattle.std.proofs.shelf.Lists.{drop-append-le, take-append-le, drop-drop, take-append-drop, take-all, length-take-le, take-at, drop-at, drop-all, take-rest}
-use Rattle.hash.specs.Sha256.{blocks, compressed, start}
+use lib.ListN.{length, take, drop, replicate, length-append, length-drop}
+use Rattle.std.proofs.shelf.Lists.{drop-append-le, take-append-le, drop-drop, take-append-drop, take-all, length-take-le, take-at, drop-at, drop-all, take-rest, take-replicate}
+use Rattle.hash.specs.Sha256.{blocks, compressed, start, zeros, eight, padded, spread, sha256}
 use Rattle.hash.specs.Hasher.{Holds}
 use Rattle.hash.proofs.Rounds.{blocks-more}
 use Rattle.hash.specs.declared.message.Hasher.{Hasher}
@@ -147,3 +147,23 @@ holds-long s m b front rest full state next tail last sized h ge fr re e p q t l
       ap (λ x. (x + length b) % 2 ^ 64) (h .long) ∙ mod-add-mod (length m) (2 ^ 64) (length b)
       ∙ ap (λ j. j % 2 ^ 64) (sym (length-append m b))
     }
+
+-- the padding, as two parts
+pub padded-is :
+  (t : ℕ) (m bits : List ℕ) → t ≡ length m % 2 ^ 64 → bits ≡ eight ((t * 8) % 2 ^ 64)
+  → (m ++ take (zeros t + 1 - 0) (0x80 ∷ replicate 63 0)) ++ bits ≡ padded m
+padded-is t m bits long e =
+  let n = length m in
+  let z : zeros t ≡ zeros n = omega arith in
+  let k : zeros t + 1 - 0 ≡ suc (zeros n) = omega arith in
+  let b : (t * 8) % 2 ^ 64 ≡ 8 * n % 2 ^ 64 = omega arith in
+  ap (λ j. (m ++ take j (0x80 ∷ replicate 63 0)) ++ bits) k
+  ∙ ap (λ l. (m ++ (0x80 ∷ l)) ++ bits) (take-replicate (zeros n) 63 0 (omega arith))
+  ∙ ap (λ l. (m ++ (0x80 ∷ replicate (zeros n) 0)) ++ l) (e ∙ ap eight b)
+  ∙ append-assoc m (0x80 ∷ replicate (zeros n) 0) (eight (8 * n % 2 ^ 64))
+
+-- the digest, once the padding is taken in
+pub finished :
+  (s : Hasher) (m all r : List ℕ) → Holds s all → all ≡ padded m → r ≡ spread 8 (s .state) → r ≡ sha256 m
+unfolding sha256
+finished s m all r h e is = is ∙ ap (spread 8) (h .whole ∙ ap (λ l. blocks (length l / 64) l start) e)

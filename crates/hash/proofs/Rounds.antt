@@ -1,12 +1,15 @@
 -- One more word, round or block, at an index n + 1.
 use mathlib.Core.Path.{_≡_, refl, ap, _∙_, sym}
 use mathlib.Core.List.{List, [], _∷_, _++_}
-use Prim.Native.Nat.{ℕ, suc, _+_, _*_, _<_}
+use Prim.Native.Nat.{ℕ, suc, _+_, _*_, _<_, _≤_}
 use native.Mathlib.Numerals.{add-one}
 use native.Mathlib.Omega.{arith}
 use lib.ListN.{length, getD, take, drop, set}
 use Rattle.std.proofs.shelf.Lists.{getD-take, take-more-set, take-all}
-use Rattle.hash.specs.Sha256.{_⊞_, SSIG0, SSIG1, word, words, next, extended, round, rounds, ks, blocks, compressed}
+use Rattle.std.proofs.shelf.Edits.{length-paste, take-paste}
+use Rattle.std.proofs.shelf.Parts.{putMid-paste}
+use borrow.Rule.Slice.PartMut.{putMid}
+use Rattle.hash.specs.Sha256.{_⊞_, SSIG0, SSIG1, word, words, next, extended, round, rounds, ks, blocks, compressed, four, spread}
 
 pub words-more :
   (n : ℕ) (w bs : List ℕ) (v : ℕ) → n < length w → take n w ≡ words n bs → v ≡ word bs (4 * n)
@@ -66,3 +69,31 @@ pub blocks-slice :
   (n k : ℕ) (m h s t : List ℕ) → s ≡ blocks n m h → k ≡ 64 → t ≡ compressed s (take k (drop (64 * n) m))
   → t ≡ blocks (n + 1) m h
 blocks-slice n k m h s t e is f = let more = blocks-more n m h in cc
+
+-- a part k long that is written from a on
+pub putMid-step :
+  (a k : ℕ) (bs ys zs : List ℕ) → ys ≡ zs → k ≡ length zs → a + k ≤ length bs
+  → (length (putMid a k bs ys) ≡ length bs) × (take (a + k) (putMid a k bs ys) ≡ take a bs ++ zs)
+putMid-step a k bs ys zs e long le =
+  let is = putMid-paste a k bs ys zs k e refl long in
+  ( ap length is ∙ length-paste bs a zs k le (omega arith)
+  , ap (take (a + k)) is ∙ take-paste bs a zs k (omega arith) (omega arith) ∙ ap (λ l. take a bs ++ l) (take-all k zs (omega arith))
+  )
+
+pub spread-more :
+  (n k : ℕ) (bs ys ws : List ℕ) → k ≡ 4 → length bs ≡ 32 → n < 8 → ys ≡ four (getD ws n 0) → take (4 * n) bs ≡ spread n ws
+  → (length (putMid (4 * n) k bs ys) ≡ 32) × (take (4 * (n + 1)) (putMid (4 * n) k bs ys) ≡ spread (n + 1) ws)
+unfolding spread
+spread-more n k bs ys ws is len lt e inv =
+  let le : 4 * n + k ≤ length bs = omega arith in
+  let step = putMid-step (4 * n) k bs ys (four (getD ws n 0)) e is le in
+  let on : 4 * (n + 1) ≡ 4 * n + k = omega arith in
+  ( step .0 ∙ len
+  , ap (λ j. take j (putMid (4 * n) k bs ys)) on ∙ step .1 ∙ ap (λ l. l ++ four (getD ws n 0)) inv
+    ∙ sym (ap (λ j. spread j ws) (add-one n))
+  )
+
+pub spread-all :
+  (n : ℕ) (bs ws : List ℕ) → n ≡ 8 → length bs ≡ 32 → take (4 * n) bs ≡ spread n ws → bs ≡ spread 8 ws
+spread-all n bs ws is len e =
+  sym (take-all 32 bs (omega arith)) ∙ ap (λ k. take (4 * k) bs) (sym is) ∙ e ∙ ap (λ k. spread k ws) is

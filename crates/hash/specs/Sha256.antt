@@ -6,6 +6,7 @@
 --   padded                  the message with its padding (section 4.1)
 --   schedule, rounds        the message schedule and the 64 rounds of a block (section 6.2)
 --   blocks                  the hash value after a number of blocks (section 6.2)
+--   spread                  words as bytes
 --   sha256                  the digest, 32 bytes
 use mathlib.Core.List.{List, [], _∷_, _++_}
 use Prim.Native.Nat.{ℕ, zero, suc, _+_, _-_, _*_, _/_, _%_, _^_}
@@ -140,18 +141,22 @@ eight n =
   ∷ (n / 4294967296 % 256) ∷ (n / 16777216 % 256) ∷ (n / 65536 % 256) ∷ (n / 256 % 256) ∷ (n % 256) ∷ []
 
 -- what is appended to a message of n bytes: a one, zeros, and its length in bits
-unfoldable pub padding : ℕ → List ℕ
+abbrev pub padding : ℕ → List ℕ
 padding n = (0x80 ∷ replicate (zeros n) 0) ++ eight (8 * n % 2 ^ 64)
 
 -- the message with its padding, a whole number of blocks
 abbrev pub padded : List ℕ → List ℕ
 padded m = m ++ padding (length m)
 
--- the bytes of the words, high byte first
-unfoldable pub spread : List ℕ → List ℕ
-spread [] = []
-spread (x ∷ xs) = (x / 16777216 % 256) ∷ (x / 65536 % 256) ∷ (x / 256 % 256) ∷ (x % 256) ∷ spread xs
+-- a word in four bytes, high byte first
+abbrev pub four : ℕ → List ℕ
+four x = (x / 16777216 % 256) ∷ (x / 65536 % 256) ∷ (x / 256 % 256) ∷ (x % 256) ∷ []
 
--- the digest of a message
+-- the bytes of the first n words
+unfoldable pub spread : ℕ → List ℕ → List ℕ
+spread zero ws = []
+spread (suc n) ws = spread n ws ++ four (getD ws n 0)
+
+-- the digest of a message: the bytes of the last hash value
 unfoldable pub sha256 : List ℕ → List ℕ
-sha256 m = spread (blocks (length (padded m) / 64) (padded m) start)
+sha256 m = spread 8 (blocks (length (padded m) / 64) (padded m) start)
