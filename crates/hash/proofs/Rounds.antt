@@ -12,49 +12,49 @@ use borrow.Rule.Slice.PartMut.{putMid}
 use Rattle.hash.specs.Sha256.{_⊞_, SSIG0, SSIG1, word, words, next, extended, round, rounds, ks, blocks, compressed, four, spread}
 
 pub words-more :
-  (n : ℕ) (w bs : List ℕ) (v : ℕ) → n < length w → take n w ≡ words n bs → v ≡ word bs (4 * n)
-  → take (n + 1) (set w n v) ≡ words (n + 1) bs
+    (n : ℕ) (w bs : List ℕ) (v : ℕ) → n < length w → take n w ≡ words n bs → v ≡ word bs (4 * n)
+    → take (n + 1) (set w n v) ≡ words (n + 1) bs
 unfolding words
 words-more n w bs v lt e is =
-  let on = ap (λ k. words k bs) (add-one n) in let put = take-more-set w n v lt in cc
+    let on = ap (λ k. words k bs) (add-one n) in let put = take-more-set w n v lt in cc
 
 -- a word is made from the words before it
 pub next-take : (n : ℕ) (w : List ℕ) → next n (take (n + 16) w) ≡ next n w
 next-take n w =
-  let p : n + 14 < n + 16 = omega arith in
-  let q : n + 9 < n + 16 = omega arith in
-  let r : n + 1 < n + 16 = omega arith in
-  let s : n < n + 16 = omega arith in
-  simp getD-take
+    let p : n + 14 < n + 16 = omega arith in
+    let q : n + 9 < n + 16 = omega arith in
+    let r : n + 1 < n + 16 = omega arith in
+    let s : n < n + 16 = omega arith in
+    simp getD-take
 
 pub extended-more :
-  (n : ℕ) (w ws : List ℕ) (a b : ℕ) → n + 16 < length w → take (n + 16) w ≡ extended n ws
-  → a ≡ SSIG1 (getD w (n + 14) 0) → b ≡ SSIG0 (getD w (n + 1) 0)
-  → take (n + 1 + 16) (set w (n + 16) (a ⊞ getD w (n + 9) 0 ⊞ b ⊞ getD w n 0)) ≡ extended (n + 1) ws
+    (n : ℕ) (w ws : List ℕ) (a b : ℕ) → n + 16 < length w → take (n + 16) w ≡ extended n ws
+    → a ≡ SSIG1 (getD w (n + 14) 0) → b ≡ SSIG0 (getD w (n + 1) 0)
+    → take (n + 1 + 16) (set w (n + 16) (a ⊞ getD w (n + 9) 0 ⊞ b ⊞ getD w n 0)) ≡ extended (n + 1) ws
 unfolding extended
 extended-more n w ws a b lt e p q =
-  let on : n + 1 + 16 ≡ n + 16 + 1 = omega arith in
-  let more = ap (λ k. extended k ws) (add-one n) in
-  let v : a ⊞ getD w (n + 9) 0 ⊞ b ⊞ getD w n 0 ≡ next n (extended n ws) =
+    let on : n + 1 + 16 ≡ n + 16 + 1 = omega arith in
+    let more = ap (λ k. extended k ws) (add-one n) in
+    let v : a ⊞ getD w (n + 9) 0 ⊞ b ⊞ getD w n 0 ≡ next n (extended n ws) =
     rw (p, q) (sym (next-take n w) ∙ ap (next n) e) in
-  let put = take-more-set w (n + 16) (a ⊞ getD w (n + 9) 0 ⊞ b ⊞ getD w n 0) lt in
-  ap (λ k. take k (set w (n + 16) (a ⊞ getD w (n + 9) 0 ⊞ b ⊞ getD w n 0))) on
-  ∙ put ∙ ap (λ x. take (n + 16) w ++ x ∷ []) v ∙ ap (λ l. l ++ next n (extended n ws) ∷ []) e ∙ sym more
+    let put = take-more-set w (n + 16) (a ⊞ getD w (n + 9) 0 ⊞ b ⊞ getD w n 0) lt in
+    ap (λ k. take k (set w (n + 16) (a ⊞ getD w (n + 9) 0 ⊞ b ⊞ getD w n 0))) on
+    ∙ put ∙ ap (λ x. take (n + 16) w ++ x ∷ []) v ∙ ap (λ l. l ++ next n (extended n ws) ∷ []) e ∙ sym more
 
 pub extended-all :
-  (n : ℕ) (w ws : List ℕ) → length w ≡ 64 → n ≡ 48 → take (n + 16) w ≡ extended n ws → w ≡ extended 48 ws
+    (n : ℕ) (w ws : List ℕ) → length w ≡ 64 → n ≡ 48 → take (n + 16) w ≡ extended n ws → w ≡ extended 48 ws
 extended-all n w ws len is e =
-  sym (take-all 64 w (omega arith)) ∙ ap (λ k. take (k + 16) w) (sym is) ∙ e ∙ ap (λ k. extended k ws) is
+    sym (take-all 64 w (omega arith)) ∙ ap (λ k. take (k + 16) w) (sym is) ∙ e ∙ ap (λ k. extended k ws) is
 
 pub rounds-none : (w s : List ℕ) → rounds 0 w s ≡ s
 unfolding rounds
 rounds-none w s = refl
 
 pub rounds-more :
-  (n : ℕ) (w s t : List ℕ) → t ≡ rounds n w s → round (getD ks n 0) (getD w n 0) t ≡ rounds (n + 1) w s
+    (n : ℕ) (w s t : List ℕ) → t ≡ rounds n w s → round (getD ks n 0) (getD w n 0) t ≡ rounds (n + 1) w s
 unfolding rounds
 rounds-more n w s t e =
-  ap (round (getD ks n 0) (getD w n 0)) e ∙ sym (ap (λ k. rounds k w s) (add-one n))
+    ap (round (getD ks n 0) (getD w n 0)) e ∙ sym (ap (λ k. rounds k w s) (add-one n))
 
 pub blocks-none : (m h : List ℕ) → blocks 0 m h ≡ h
 unfolding blocks
@@ -66,34 +66,34 @@ blocks-more n m h = ap (λ k. blocks k m h) (add-one n)
 
 -- one block more, as the slice of a loop has it
 pub blocks-slice :
-  (n k : ℕ) (m h s t : List ℕ) → s ≡ blocks n m h → k ≡ 64 → t ≡ compressed s (take k (drop (64 * n) m))
-  → t ≡ blocks (n + 1) m h
+    (n k : ℕ) (m h s t : List ℕ) → s ≡ blocks n m h → k ≡ 64 → t ≡ compressed s (take k (drop (64 * n) m))
+    → t ≡ blocks (n + 1) m h
 blocks-slice n k m h s t e is f = let more = blocks-more n m h in cc
 
 -- a part k long that is written from a on
 pub putMid-step :
-  (a k : ℕ) (bs ys zs : List ℕ) → ys ≡ zs → k ≡ length zs → a + k ≤ length bs
-  → (length (putMid a k bs ys) ≡ length bs) × (take (a + k) (putMid a k bs ys) ≡ take a bs ++ zs)
+    (a k : ℕ) (bs ys zs : List ℕ) → ys ≡ zs → k ≡ length zs → a + k ≤ length bs
+    → (length (putMid a k bs ys) ≡ length bs) × (take (a + k) (putMid a k bs ys) ≡ take a bs ++ zs)
 putMid-step a k bs ys zs e long le =
-  let is = putMid-paste a k bs ys zs k e refl long in
-  ( ap length is ∙ length-paste bs a zs k le (omega arith)
-  , ap (take (a + k)) is ∙ take-paste bs a zs k (omega arith) (omega arith) ∙ ap (λ l. take a bs ++ l) (take-all k zs (omega arith))
-  )
+    let is = putMid-paste a k bs ys zs k e refl long in (
+      ap length is ∙ length-paste bs a zs k le (omega arith),
+      ap (take (a + k)) is ∙ take-paste bs a zs k (omega arith) (omega arith) ∙ ap (λ l. take a bs ++ l) (take-all k zs (omega arith)),
+    )
 
 pub spread-more :
-  (n k : ℕ) (bs ys ws : List ℕ) → k ≡ 4 → length bs ≡ 32 → n < 8 → ys ≡ four (getD ws n 0) → take (4 * n) bs ≡ spread n ws
-  → (length (putMid (4 * n) k bs ys) ≡ 32) × (take (4 * (n + 1)) (putMid (4 * n) k bs ys) ≡ spread (n + 1) ws)
+    (n k : ℕ) (bs ys ws : List ℕ) → k ≡ 4 → length bs ≡ 32 → n < 8 → ys ≡ four (getD ws n 0) → take (4 * n) bs ≡ spread n ws
+    → (length (putMid (4 * n) k bs ys) ≡ 32) × (take (4 * (n + 1)) (putMid (4 * n) k bs ys) ≡ spread (n + 1) ws)
 unfolding spread
 spread-more n k bs ys ws is len lt e inv =
-  let le : 4 * n + k ≤ length bs = omega arith in
-  let step = putMid-step (4 * n) k bs ys (four (getD ws n 0)) e is le in
-  let on : 4 * (n + 1) ≡ 4 * n + k = omega arith in
-  ( step .0 ∙ len
-  , ap (λ j. take j (putMid (4 * n) k bs ys)) on ∙ step .1 ∙ ap (λ l. l ++ four (getD ws n 0)) inv
-    ∙ sym (ap (λ j. spread j ws) (add-one n))
-  )
+    let le : 4 * n + k ≤ length bs = omega arith in
+    let step = putMid-step (4 * n) k bs ys (four (getD ws n 0)) e is le in
+    let on : 4 * (n + 1) ≡ 4 * n + k = omega arith in (
+      step .0 ∙ len,
+      ap (λ j. take j (putMid (4 * n) k bs ys)) on ∙ step .1 ∙ ap (λ l. l ++ four (getD ws n 0)) inv
+          ∙ sym (ap (λ j. spread j ws) (add-one n)),
+    )
 
 pub spread-all :
-  (n : ℕ) (bs ws : List ℕ) → n ≡ 8 → length bs ≡ 32 → take (4 * n) bs ≡ spread n ws → bs ≡ spread 8 ws
+    (n : ℕ) (bs ws : List ℕ) → n ≡ 8 → length bs ≡ 32 → take (4 * n) bs ≡ spread n ws → bs ≡ spread 8 ws
 spread-all n bs ws is len e =
-  sym (take-all 32 bs (omega arith)) ∙ ap (λ k. take (4 * k) bs) (sym is) ∙ e ∙ ap (λ k. spread k ws) is
+    sym (take-all 32 bs (omega arith)) ∙ ap (λ k. take (4 * k) bs) (sym is) ∙ e ∙ ap (λ k. spread k ws) is

@@ -14,7 +14,6 @@ use lib.ListN.{length, getD, take, drop, replicate}
 use lib.Bits.{bitAnd, bitOr, bitXor}
 
 infixl 65 _⊞_
-
 -- addition modulo 2^32
 abbrev pub _⊞_ : ℕ → ℕ → ℕ
 x ⊞ y = (x + y) % 2 ^ 32
@@ -58,21 +57,21 @@ SSIG1 x = bitXor (bitXor (rotr 17 x) (rotr 19 x)) (shr 10 x)
 -- K(0) to K(63)
 unfoldable pub ks : List ℕ
 ks =
-  0x428a2f98 ∷ 0x71374491 ∷ 0xb5c0fbcf ∷ 0xe9b5dba5 ∷ 0x3956c25b ∷ 0x59f111f1 ∷ 0x923f82a4 ∷ 0xab1c5ed5
-  ∷ 0xd807aa98 ∷ 0x12835b01 ∷ 0x243185be ∷ 0x550c7dc3 ∷ 0x72be5d74 ∷ 0x80deb1fe ∷ 0x9bdc06a7 ∷ 0xc19bf174
-  ∷ 0xe49b69c1 ∷ 0xefbe4786 ∷ 0x0fc19dc6 ∷ 0x240ca1cc ∷ 0x2de92c6f ∷ 0x4a7484aa ∷ 0x5cb0a9dc ∷ 0x76f988da
-  ∷ 0x983e5152 ∷ 0xa831c66d ∷ 0xb00327c8 ∷ 0xbf597fc7 ∷ 0xc6e00bf3 ∷ 0xd5a79147 ∷ 0x06ca6351 ∷ 0x14292967
-  ∷ 0x27b70a85 ∷ 0x2e1b2138 ∷ 0x4d2c6dfc ∷ 0x53380d13 ∷ 0x650a7354 ∷ 0x766a0abb ∷ 0x81c2c92e ∷ 0x92722c85
-  ∷ 0xa2bfe8a1 ∷ 0xa81a664b ∷ 0xc24b8b70 ∷ 0xc76c51a3 ∷ 0xd192e819 ∷ 0xd6990624 ∷ 0xf40e3585 ∷ 0x106aa070
-  ∷ 0x19a4c116 ∷ 0x1e376c08 ∷ 0x2748774c ∷ 0x34b0bcb5 ∷ 0x391c0cb3 ∷ 0x4ed8aa4a ∷ 0x5b9cca4f ∷ 0x682e6ff3
-  ∷ 0x748f82ee ∷ 0x78a5636f ∷ 0x84c87814 ∷ 0x8cc70208 ∷ 0x90befffa ∷ 0xa4506ceb ∷ 0xbef9a3f7 ∷ 0xc67178f2
-  ∷ []
+    0x428a2f98 ∷ 0x71374491 ∷ 0xb5c0fbcf ∷ 0xe9b5dba5 ∷ 0x3956c25b ∷ 0x59f111f1 ∷ 0x923f82a4 ∷ 0xab1c5ed5
+    ∷ 0xd807aa98 ∷ 0x12835b01 ∷ 0x243185be ∷ 0x550c7dc3 ∷ 0x72be5d74 ∷ 0x80deb1fe ∷ 0x9bdc06a7 ∷ 0xc19bf174
+    ∷ 0xe49b69c1 ∷ 0xefbe4786 ∷ 0x0fc19dc6 ∷ 0x240ca1cc ∷ 0x2de92c6f ∷ 0x4a7484aa ∷ 0x5cb0a9dc ∷ 0x76f988da
+    ∷ 0x983e5152 ∷ 0xa831c66d ∷ 0xb00327c8 ∷ 0xbf597fc7 ∷ 0xc6e00bf3 ∷ 0xd5a79147 ∷ 0x06ca6351 ∷ 0x14292967
+    ∷ 0x27b70a85 ∷ 0x2e1b2138 ∷ 0x4d2c6dfc ∷ 0x53380d13 ∷ 0x650a7354 ∷ 0x766a0abb ∷ 0x81c2c92e ∷ 0x92722c85
+    ∷ 0xa2bfe8a1 ∷ 0xa81a664b ∷ 0xc24b8b70 ∷ 0xc76c51a3 ∷ 0xd192e819 ∷ 0xd6990624 ∷ 0xf40e3585 ∷ 0x106aa070
+    ∷ 0x19a4c116 ∷ 0x1e376c08 ∷ 0x2748774c ∷ 0x34b0bcb5 ∷ 0x391c0cb3 ∷ 0x4ed8aa4a ∷ 0x5b9cca4f ∷ 0x682e6ff3
+    ∷ 0x748f82ee ∷ 0x78a5636f ∷ 0x84c87814 ∷ 0x8cc70208 ∷ 0x90befffa ∷ 0xa4506ceb ∷ 0xbef9a3f7 ∷ 0xc67178f2
+    ∷ []
 
 -- H(0): the hash value before the first block
 unfoldable pub start : List ℕ
 start =
-  0x6a09e667 ∷ 0xbb67ae85 ∷ 0x3c6ef372 ∷ 0xa54ff53a
-  ∷ 0x510e527f ∷ 0x9b05688c ∷ 0x1f83d9ab ∷ 0x5be0cd19 ∷ []
+    0x6a09e667 ∷ 0xbb67ae85 ∷ 0x3c6ef372 ∷ 0xa54ff53a
+    ∷ 0x510e527f ∷ 0x9b05688c ∷ 0x1f83d9ab ∷ 0x5be0cd19 ∷ []
 
 -- the word of the four bytes from i on, high byte first
 abbrev pub word : List ℕ → ℕ → ℕ
@@ -99,7 +98,7 @@ schedule bs = extended 48 (words 16 bs)
 -- T1 and T2 of one round; the working variables a to h are the list s
 abbrev pub T1 : ℕ → ℕ → List ℕ → ℕ
 T1 k w s =
-  getD s 7 0 ⊞ BSIG1 (getD s 4 0) ⊞ CH (getD s 4 0) (getD s 5 0) (getD s 6 0) ⊞ k ⊞ w
+    getD s 7 0 ⊞ BSIG1 (getD s 4 0) ⊞ CH (getD s 4 0) (getD s 5 0) (getD s 6 0) ⊞ k ⊞ w
 
 abbrev pub T2 : List ℕ → ℕ
 T2 s = BSIG0 (getD s 0 0) ⊞ MAJ (getD s 0 0) (getD s 1 0) (getD s 2 0)
@@ -107,8 +106,8 @@ T2 s = BSIG0 (getD s 0 0) ⊞ MAJ (getD s 0 0) (getD s 1 0) (getD s 2 0)
 -- one round
 abbrev pub round : ℕ → ℕ → List ℕ → List ℕ
 round k w s =
-  (T1 k w s ⊞ T2 s) ∷ getD s 0 0 ∷ getD s 1 0 ∷ getD s 2 0
-  ∷ (getD s 3 0 ⊞ T1 k w s) ∷ getD s 4 0 ∷ getD s 5 0 ∷ getD s 6 0 ∷ []
+    (T1 k w s ⊞ T2 s) ∷ getD s 0 0 ∷ getD s 1 0 ∷ getD s 2 0
+    ∷ (getD s 3 0 ⊞ T1 k w s) ∷ getD s 4 0 ∷ getD s 5 0 ∷ getD s 6 0 ∷ []
 
 -- the first n rounds
 unfoldable pub rounds : ℕ → List ℕ → List ℕ → List ℕ
@@ -118,8 +117,8 @@ rounds (suc n) w s = round (getD ks n 0) (getD w n 0) (rounds n w s)
 -- each working variable added to its part of the hash value h
 abbrev pub added : List ℕ → List ℕ → List ℕ
 added s h =
-  (getD s 0 0 ⊞ getD h 0 0) ∷ (getD s 1 0 ⊞ getD h 1 0) ∷ (getD s 2 0 ⊞ getD h 2 0) ∷ (getD s 3 0 ⊞ getD h 3 0)
-  ∷ (getD s 4 0 ⊞ getD h 4 0) ∷ (getD s 5 0 ⊞ getD h 5 0) ∷ (getD s 6 0 ⊞ getD h 6 0) ∷ (getD s 7 0 ⊞ getD h 7 0) ∷ []
+    (getD s 0 0 ⊞ getD h 0 0) ∷ (getD s 1 0 ⊞ getD h 1 0) ∷ (getD s 2 0 ⊞ getD h 2 0) ∷ (getD s 3 0 ⊞ getD h 3 0)
+    ∷ (getD s 4 0 ⊞ getD h 4 0) ∷ (getD s 5 0 ⊞ getD h 5 0) ∷ (getD s 6 0 ⊞ getD h 6 0) ∷ (getD s 7 0 ⊞ getD h 7 0) ∷ []
 
 -- the hash value h after one more block
 unfoldable pub compressed : List ℕ → List ℕ → List ℕ
@@ -137,8 +136,8 @@ zeros n = (119 - n % 64) % 64
 -- a 64-bit number in eight bytes, high byte first
 abbrev pub eight : ℕ → List ℕ
 eight n =
-  (n / 72057594037927936 % 256) ∷ (n / 281474976710656 % 256) ∷ (n / 1099511627776 % 256)
-  ∷ (n / 4294967296 % 256) ∷ (n / 16777216 % 256) ∷ (n / 65536 % 256) ∷ (n / 256 % 256) ∷ (n % 256) ∷ []
+    (n / 72057594037927936 % 256) ∷ (n / 281474976710656 % 256) ∷ (n / 1099511627776 % 256)
+    ∷ (n / 4294967296 % 256) ∷ (n / 16777216 % 256) ∷ (n / 65536 % 256) ∷ (n / 256 % 256) ∷ (n % 256) ∷ []
 
 -- what is appended to a message of n bytes: a one, zeros, and its length in bits
 abbrev pub padding : ℕ → List ℕ

@@ -103,31 +103,58 @@ pub data Step (r : Rules) : State → State → Type 0 where
   -- the house hears a login that opens with somebody's own key, and is of lately: a key is drawn, a ticket for the house itself and a letter go out
   grants : (s : State) (a t : ℕ) (n : Term) → Gets (s .air) (Lock 4 (Own a) (Pair n (Num t))) → t ≤ s .now → s .now ≤ t + r .lag → isIn a (s .closed) ≡ false →
       Step r s (with-air (ticket r (r .house) (Num a) (even (s .next)) (s .now + r .life) ∷ letter (Own a) n (r .house) (even (s .next)) (s .now + r .life) ∷ [])
-        (record { now = s .now; air = s .air; stolen = s .stolen; closed = s .closed; wishes = s .wishes; made = record { who = a; service = r .house; key = s .next; until = s .now + r .life } ∷ s .made; asked = s .asked; done = s .done; next = s .next + 1 }))
+      (record { now = s .now; air = s .air; stolen = s .stolen; closed = s .closed; wishes = s .wishes; made = record { who = a; service = r .house; key = s .next; until = s .now + r .life } ∷ s .made; asked = s .asked; done = s .done; next = s .next + 1 }))
   -- somebody who takes a letter of the house, for a login of theirs, asks for the service, under the key in it; the login is under way no more
   wants : (s : State) (x : Wish) (xs ys : List Wish) (u : ℕ) (k : Term) → s .wishes ≡ xs ++ (x ∷ ys) → x .login ≡ true → Gets (s .air) (letter (Own (x .who)) (even (x .number)) (r .house) k u) →
       Step r s (with-air (asking k (r .house) (even (s .next)) (Num (x .service)) (s .now) ∷ [])
-        (record { now = s .now; air = s .air; stolen = s .stolen; closed = s .closed; wishes = xs ++ (record { who = x .who; service = x .service; what = x .what; at = x .at; number = s .next; key = k; login = false } ∷ ys);
-          made = s .made; asked = record { who = x .who; service = r .house; key = k; number = s .next; what = Num (x .service); at = s .now } ∷ s .asked; done = s .done; next = s .next + 1 }))
+      (record {
+        now = s .now;
+        air = s .air;
+        stolen = s .stolen;
+        closed = s .closed;
+        wishes = xs ++ (record { who = x .who; service = x .service; what = x .what; at = x .at; number = s .next; key = k; login = false } ∷ ys);
+        made = s .made;
+        asked = record { who = x .who; service = r .house; key = k; number = s .next; what = Num (x .service); at = s .now } ∷ s .asked;
+        done = s .done;
+        next = s .next + 1;
+      }))
   -- a ticket for the house goes on being used: somebody who has asked under its key wants something more
   wish : (s : State) (q : Asked) (v : ℕ) (w : Term) → (v ≡ r .house → ⊥) → List·Memᴰ q (s .asked) → q .service ≡ r .house → Gets (s .air) w →
       Step r s (with-air (asking (q .key) (r .house) (even (s .next)) (Num v) (s .now) ∷ [])
-        (record { now = s .now; air = s .air; stolen = s .stolen; closed = s .closed; wishes = record { who = q .who; service = v; what = w; at = s .now; number = s .next; key = q .key; login = false } ∷ s .wishes;
-          made = s .made; asked = record { who = q .who; service = r .house; key = q .key; number = s .next; what = Num v; at = s .now } ∷ s .asked; done = s .done; next = s .next + 1 }))
+      (record {
+        now = s .now;
+        air = s .air;
+        stolen = s .stolen;
+        closed = s .closed;
+        wishes = record { who = q .who; service = v; what = w; at = s .now; number = s .next; key = q .key; login = false } ∷ s .wishes;
+        made = s .made;
+        asked = record { who = q .who; service = r .house; key = q .key; number = s .next; what = Num v; at = s .now } ∷ s .asked;
+        done = s .done;
+        next = s .next + 1;
+      }))
   -- and so does one for a service
   again : (s : State) (q : Asked) (w : Term) → List·Memᴰ q (s .asked) → (q .service ≡ r .house → ⊥) → Gets (s .air) w →
       Step r s (with-air (asking (q .key) (q .service) (even (s .next)) w (s .now) ∷ [])
-        (record { now = s .now; air = s .air; stolen = s .stolen; closed = s .closed; wishes = s .wishes; made = s .made; asked = record { who = q .who; service = q .service; key = q .key; number = s .next; what = w; at = s .now } ∷ s .asked; done = s .done; next = s .next + 1 }))
+      (record { now = s .now; air = s .air; stolen = s .stolen; closed = s .closed; wishes = s .wishes; made = s .made; asked = record { who = q .who; service = q .service; key = q .key; number = s .next; what = w; at = s .now } ∷ s .asked; done = s .done; next = s .next + 1 }))
   -- the house hears a ticket of its own and an asking under its key, of lately, for the first time: a key for the service is drawn
   serves : (s : State) (a v u t : ℕ) (k n : Term) → (v ≡ r .house → ⊥) → Gets (s .air) (ticket r (r .house) (Num a) k u) → Gets (s .air) (asking k (r .house) n (Num v) t) →
       t ≤ s .now → s .now ≤ t + r .lag → s .now ≤ u → isIn a (s .closed) ≡ false → (doneBefore (s .now) (r .lag) (r .house) k n (s .done) → ⊥) →
       Step r s (with-air (ticket r v (Num a) (even (s .next)) (s .now + r .life) ∷ letter k n v (even (s .next)) (s .now + r .life) ∷ [])
-        (record { now = s .now; air = s .air; stolen = s .stolen; closed = s .closed; wishes = s .wishes; made = record { who = a; service = v; key = s .next; until = s .now + r .life } ∷ s .made;
-          asked = s .asked; done = record { service = r .house; who = a; key = k; number = n; what = Num v; at = s .now } ∷ s .done; next = s .next + 1 }))
+      (record {
+        now = s .now;
+        air = s .air;
+        stolen = s .stolen;
+        closed = s .closed;
+        wishes = s .wishes;
+        made = record { who = a; service = v; key = s .next; until = s .now + r .life } ∷ s .made;
+        asked = s .asked;
+        done = record { service = r .house; who = a; key = k; number = n; what = Num v; at = s .now } ∷ s .done;
+        next = s .next + 1;
+      }))
   -- somebody who takes a letter that fits an asking of theirs for a service asks the service for what is wanted, with the tick at which it was wanted; that is under way no more
   asks : (s : State) (x : Wish) (xs ys : List Wish) (u : ℕ) (k : Term) → s .wishes ≡ xs ++ (x ∷ ys) → x .login ≡ false → Gets (s .air) (letter (x .key) (even (x .number)) (x .service) k u) →
       Step r s (with-air (asking k (x .service) (even (s .next)) (x .what) (x .at) ∷ [])
-        (record { now = s .now; air = s .air; stolen = s .stolen; closed = s .closed; wishes = xs ++ ys; made = s .made; asked = record { who = x .who; service = x .service; key = k; number = s .next; what = x .what; at = x .at } ∷ s .asked; done = s .done; next = s .next + 1 }))
+      (record { now = s .now; air = s .air; stolen = s .stolen; closed = s .closed; wishes = xs ++ ys; made = s .made; asked = record { who = x .who; service = x .service; key = k; number = s .next; what = x .what; at = x .at } ∷ s .asked; done = s .done; next = s .next + 1 }))
   -- a service hears a ticket of its own and an asking under its key, of lately, for the first time: it does what is asked
   -- it says so, by a receipt under the key
   does : (s : State) (v a u t : ℕ) (k n w : Term) → (v ≡ r .house → ⊥) → Gets (s .air) (ticket r v (Num a) k u) → Gets (s .air) (asking k v n w t) →

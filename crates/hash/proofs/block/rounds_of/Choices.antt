@@ -6,4 +6,4 @@ use Rattle.hash.proofs.block.rounds_of.Given as given
 -- the working variables are those after i rounds
 abbrev pub Inv-loop-i : given.InvT-loop-i
 Inv-loop-i l =
-  l .a ∷ l .b ∷ l .c ∷ l .d ∷ l .e ∷ l .f ∷ l .g ∷ l .h ∷ [] ≡ rounds (l .i) (l .w) (l .state)
+    l .a ∷ l .b ∷ l .c ∷ l .d ∷ l .e ∷ l .f ∷ l .g ∷ l .h ∷ [] ≡ rounds (l .i) (l .w) (l .state)

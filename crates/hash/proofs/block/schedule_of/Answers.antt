@@ -11,11 +11,11 @@ unfolding extended
 loop-t-holds c = (search needs, c .words-of-w .ensures)
 
 pub loop-t-again : need.loop-t-again
-loop-t-again c =
-  ( simp length-set (c .loop-t .inv .0)
-  , extended-more (c .loop-t .t) (c .loop-t .w) _ (c .ssig1 .result) (c .ssig0 .result)
-    (omega arith) (c .loop-t .inv .1) (c .ssig1 .ensures) (c .ssig0 .ensures)
-  )
+loop-t-again c = (
+  simp length-set (c .loop-t .inv .0),
+  extended-more (c .loop-t .t) (c .loop-t .w) _ (c .ssig1 .result) (c .ssig0 .result)
+      (omega arith) (c .loop-t .inv .1) (c .ssig1 .ensures) (c .ssig0 .ensures),
+)
 
 pub returns : need.returns
 returns c = extended-all (c .loop-t .t) (c .loop-t .w) _ (c .loop-t .inv .0) (omega arith) (c .loop-t .inv .1)

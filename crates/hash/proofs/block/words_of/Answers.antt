@@ -11,12 +11,12 @@ unfolding words
 loop-i-holds c = (refl, refl)
 
 pub loop-i-again : need.loop-i-again
-loop-i-again c =
-  ( simp length-set (c .loop-i .inv .0)
-  , words-more (c .loop-i .i) (c .loop-i .w) (c .args .block .now) (c .from-be-bytes .result)
-    (omega arith) (c .loop-i .inv .1) (c .from-be-bytes .ensures)
-  )
+loop-i-again c = (
+  simp length-set (c .loop-i .inv .0),
+  words-more (c .loop-i .i) (c .loop-i .w) (c .args .block .now) (c .from-be-bytes .result)
+      (omega arith) (c .loop-i .inv .1) (c .from-be-bytes .ensures),
+)
 
 pub returns : need.returns
 returns c = let e : c .loop-i .i ≡ 16 = omega arith in
-  ap (λ k. take k (c .loop-i .w)) (sym e) ∙ c .loop-i .inv .1 ∙ ap (λ k. words k (c .args .block .now)) e
+    ap (λ k. take k (c .loop-i .w)) (sym e) ∙ c .loop-i .inv .1 ∙ ap (λ k. words k (c .args .block .now)) e

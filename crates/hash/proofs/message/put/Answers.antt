@@ -7,7 +7,7 @@ use Rattle.hash.proofs.message.put.Needs as need
 
 pub returns : need.returns
 returns c =
-  let bs = c .args .bytes .now in
-  putMid-paste (c .args .at) _ (c .args .buffer .now) _ bs (length bs)
-  (c .copy-from-slice .ensures .after) (omega arith) refl
-  ∙ paste-all (c .args .buffer .now) (c .args .at) bs _ refl
+    let bs = c .args .bytes .now in
+    putMid-paste (c .args .at) _ (c .args .buffer .now) _ bs (length bs)
+    (c .copy-from-slice .ensures .after) (omega arith) refl
+    ∙ paste-all (c .args .buffer .now) (c .args .at) bs _ refl
