@@ -5,11 +5,11 @@ use Prim.Native.Nat.{ℕ, suc, _+_, _*_, _<_, _≤_}
 use native.Mathlib.Numerals.{add-one}
 use native.Mathlib.Omega.{arith}
 use lib.ListN.{length, getD, take, drop, set}
-use Rattle.std.proofs.shelf.Lists.{getD-take, take-more-set, take-all}
+use Rattle.std.proofs.shelf.Lists.{getD-take, take-more-set, take-all, length-set}
 use Rattle.std.proofs.shelf.Edits.{length-paste, take-paste}
 use Rattle.std.proofs.shelf.Parts.{putMid-paste}
 use borrow.Rule.Slice.PartMut.{putMid}
-use Rattle.hash.specs.Sha256.{_⊞_, SSIG0, SSIG1, word, words, next, extended, round, rounds, ks, blocks, compressed, four, spread}
+use Rattle.hash.specs.Sha256.{word, words, next, extended, round, rounds, ks, blocks, compressed, four, spread}
 
 pub words-more :
     (n : ℕ) (w bs : List ℕ) (v : ℕ) → n < length w → take n w ≡ words n bs → v ≡ word bs (4 * n)
@@ -27,23 +27,26 @@ next-take n w =
     let s : n < n + 16 = omega arith in
     simp getD-take
 
-pub extended-more :
-    (n : ℕ) (w ws : List ℕ) (a b : ℕ) → n + 16 < length w → take (n + 16) w ≡ extended n ws
-    → a ≡ SSIG1 (getD w (n + 14) 0) → b ≡ SSIG0 (getD w (n + 1) 0)
-    → take (n + 1 + 16) (set w (n + 16) (a ⊞ getD w (n + 9) 0 ⊞ b ⊞ getD w n 0)) ≡ extended (n + 1) ws
-unfolding extended
-extended-more n w ws a b lt e p q =
-    let on : n + 1 + 16 ≡ n + 16 + 1 = omega arith in
-    let more = ap (λ k. extended k ws) (add-one n) in
-    let v : a ⊞ getD w (n + 9) 0 ⊞ b ⊞ getD w n 0 ≡ next n (extended n ws) =
-    rw (p, q) (sym (next-take n w) ∙ ap (next n) e) in
-    let put = take-more-set w (n + 16) (a ⊞ getD w (n + 9) 0 ⊞ b ⊞ getD w n 0) lt in
-    ap (λ k. take k (set w (n + 16) (a ⊞ getD w (n + 9) 0 ⊞ b ⊞ getD w n 0))) on
-    ∙ put ∙ ap (λ x. take (n + 16) w ++ x ∷ []) v ∙ ap (λ l. l ++ next n (extended n ws) ∷ []) e ∙ sym more
+-- the first n words past the sixteen are made, and the schedule is 64 long
+abbrev pub Made : ℕ → List ℕ → List ℕ → Type 0
+Made n ws w = (length w ≡ 64) × (take (n + 16) w ≡ extended n ws)
 
-pub extended-all :
-    (n : ℕ) (w ws : List ℕ) → length w ≡ 64 → n ≡ 48 → take (n + 16) w ≡ extended n ws → w ≡ extended 48 ws
-extended-all n w ws len is e =
+pub made-more :
+    (n m : ℕ) (ws w v : List ℕ) → n + 1 ≡ m → n < 48 → Made n ws w → v ≡ set w (n + 16) (next n w) → Made m ws v
+unfolding extended
+made-more n m ws w v on lt (len, e) is =
+    let at : m + 16 ≡ n + 16 + 1 = omega arith in
+    let more = ap (λ k. extended k ws) (add-one n) in
+    let word : next n w ≡ next n (extended n ws) = sym (next-take n w) ∙ ap (next n) e in (
+      ap length is ∙ length-set w (n + 16) (next n w) ∙ len,
+      ap (take (m + 16)) is ∙ ap (λ k. take k (set w (n + 16) (next n w))) at
+          ∙ take-more-set w (n + 16) (next n w) (omega arith)
+          ∙ ap (λ x. take (n + 16) w ++ x ∷ []) word ∙ ap (λ l. l ++ next n (extended n ws) ∷ []) e ∙ sym more
+          ∙ ap (λ k. extended k ws) on,
+    )
+
+pub made-all : (n : ℕ) (ws w : List ℕ) → n ≡ 48 → Made n ws w → w ≡ extended 48 ws
+made-all n ws w is (len, e) =
     sym (take-all 64 w (omega arith)) ∙ ap (λ k. take (k + 16) w) (sym is) ∙ e ∙ ap (λ k. extended k ws) is
 
 pub rounds-none : (w s : List ℕ) → rounds 0 w s ≡ s
@@ -51,10 +54,10 @@ unfolding rounds
 rounds-none w s = refl
 
 pub rounds-more :
-    (n : ℕ) (w s t : List ℕ) → t ≡ rounds n w s → round (getD ks n 0) (getD w n 0) t ≡ rounds (n + 1) w s
+    (n m : ℕ) (w t s r : List ℕ) → n + 1 ≡ m → s ≡ rounds n w t → r ≡ round (getD ks n 0) (getD w n 0) s → r ≡ rounds m w t
 unfolding rounds
-rounds-more n w s t e =
-    ap (round (getD ks n 0) (getD w n 0)) e ∙ sym (ap (λ k. rounds k w s) (add-one n))
+rounds-more n m w t s r on e is =
+    is ∙ ap (round (getD ks n 0) (getD w n 0)) e ∙ sym (ap (λ k. rounds k w t) (add-one n)) ∙ ap (λ k. rounds k w t) on
 
 pub blocks-none : (m h : List ℕ) → blocks 0 m h ≡ h
 unfolding blocks

@@ -1,8 +1,9 @@
 // SHA-256, one block after another: the schedule, the rounds and the hash value.
 ghost use mathlib.Core.Path.{_≡_};
-ghost use Prim.Native.Nat.{_/_};
-ghost use lib.ListN.{length, take};
-ghost use Rattle.hash.specs.Sha256.{CH, MAJ, BSIG0, BSIG1, SSIG0, SSIG1, words, schedule, rounds, compressed, blocks};
+ghost use mathlib.Core.List.{List};
+ghost use Prim.Native.Nat.{ℕ, _+_, _/_, _<_, _≤_};
+ghost use lib.ListN.{length, take, set};
+ghost use Rattle.hash.specs.Sha256.{CH, MAJ, BSIG0, BSIG1, SSIG0, SSIG1, words, next, schedule, round as rounded, rounds, compressed, blocks};
 
 const K: [u32; 64] = [
     0x428a2f98,
@@ -119,27 +120,44 @@ fn ssig1(x: u32) -> u32
     x.rotate_right(17) ^ x.rotate_right(19) ^ (x >> 10)
 }
 
+// One round of the working variables a to h.
+fn round(s: [u32; 8], k: u32, w: u32) -> [u32; 8]
+    ensures { λ r. ⌜ r ≡ rounded k w s ⌝ }
+{
+    let [a, b, c, d, e, f, g, h] = s;
+    let t1 = h.wrapping_add(bsig1(e))
+        .wrapping_add(ch(e, f, g))
+        .wrapping_add(k)
+        .wrapping_add(w);
+    let t2 = bsig0(a).wrapping_add(maj(a, b, c));
+    [t1.wrapping_add(t2), a, b, c, d.wrapping_add(t1), e, f, g]
+}
+
+// The eight rounds from the round `n` on: written out, since the variables then stay where they are.
+fn eight_rounds(s: [u32; 8], w: &[u32; 64], n: usize) -> [u32; 8]
+    requires { ⌜ n + 8 ≤ 64 ⌝ }
+    ensures { λ r. ⌜ ((t : List ℕ) → s ≡ rounds n (now (w .entry)) t → r ≡ rounds (n + 8) (now (w .entry)) t) ⌝ }
+{
+    let s = round(s, K[n], w[n]);
+    let s = round(s, K[n + 1], w[n + 1]);
+    let s = round(s, K[n + 2], w[n + 2]);
+    let s = round(s, K[n + 3], w[n + 3]);
+    let s = round(s, K[n + 4], w[n + 4]);
+    let s = round(s, K[n + 5], w[n + 5]);
+    let s = round(s, K[n + 6], w[n + 6]);
+    round(s, K[n + 7], w[n + 7])
+}
+
 // The 64 rounds from the working variables `state`, with the words of the schedule `w`.
 fn rounds_of(state: &[u32; 8], w: &[u32; 64]) -> [u32; 8]
     ensures { λ r. ⌜ r ≡ rounds 64 (now (w .entry)) (now (state .entry)) ⌝ }
 {
-    let [mut a, mut b, mut c, mut d, mut e, mut f, mut g, mut h] = *state;
-    for i in 0..64usize {
-        let t1 = h.wrapping_add(bsig1(e))
-            .wrapping_add(ch(e, f, g))
-            .wrapping_add(K[i])
-            .wrapping_add(w[i]);
-        let t2 = bsig0(a).wrapping_add(maj(a, b, c));
-        h = g;
-        g = f;
-        f = e;
-        e = d.wrapping_add(t1);
-        d = c;
-        c = b;
-        b = a;
-        a = t1.wrapping_add(t2);
+    let mut s = *state;
+    for i in 0..8usize {
+        let next = eight_rounds(s, w, 8 * i);
+        s = next;
     }
-    [a, b, c, d, e, f, g, h]
+    s
 }
 
 // The sixteen words of a block, at the front of a schedule.
@@ -159,17 +177,29 @@ fn words_of(block: &[u8]) -> [u32; 64]
     w
 }
 
+// Makes the word at n + 16 of the schedule.
+fn extend(w: &mut [u32; 64], n: usize)
+    requires { ⌜ n < 48 ⌝ }
+    ensures { λ _. ⌜ now (w .exit) ≡ set (now (w .entry)) (n + 16) (next n (now (w .entry))) ⌝ }
+{
+    w[n + 16] = ssig1(w[n + 14])
+        .wrapping_add(w[n + 9])
+        .wrapping_add(ssig0(w[n + 1]))
+        .wrapping_add(w[n]);
+}
+
 // The message schedule of a block: its sixteen words, and 48 made of those before them.
+// Four in a turn, since each needs the last but one.
 fn schedule_of(block: &[u8]) -> [u32; 64]
     requires { ⌜ length (now block) ≡ 64 ⌝ }
     ensures { λ r. ⌜ r ≡ schedule (now (block .entry)) ⌝ }
 {
     let mut w = words_of(block);
-    for t in 0..48usize {
-        w[t + 16] = ssig1(w[t + 14])
-            .wrapping_add(w[t + 9])
-            .wrapping_add(ssig0(w[t + 1]))
-            .wrapping_add(w[t]);
+    for t in 0..12usize {
+        extend(&mut w, 4 * t);
+        extend(&mut w, 4 * t + 1);
+        extend(&mut w, 4 * t + 2);
+        extend(&mut w, 4 * t + 3);
     }
     w
 }
