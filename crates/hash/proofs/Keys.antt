@@ -11,7 +11,8 @@ use lib.ListN.{length, take, drop, getD, set, replicate}
 use Rattle.std.proofs.shelf.Lists.{drop-replicate, take-all, drop-all, getD-default}
 use Rattle.std.proofs.shelf.Edits.{map-over-more}
 use Rattle.hash.specs.Sha256.{sha256}
-use Rattle.hash.specs.Hmac.{filled, blockKey, masked}
+use Rattle.hash.specs.Hmac.{filled, blockKey, masked, hmac}
+use Rattle.hash.proofs.Parts.{length-sha256}
 
 -- a key written to the front of a block of zeros
 pub filled-is : (k : List ℕ) → take 0 (replicate 64 0) ++ (k ++ drop (0 + length k) (replicate 64 0)) ≡ filled k
@@ -35,3 +36,7 @@ pub masked-all :
 masked-all pad i xs ys le e =
     e ∙ ap (λ l. masked pad l ++ drop i xs) (take-all i xs le) ∙ ap (λ l. masked pad xs ++ l) (drop-all i xs le)
     ∙ append-nil (masked pad xs)
+
+pub length-hmac : (key m : List ℕ) → length (hmac key m) ≡ 32
+unfolding hmac
+length-hmac key m = length-sha256 _

@@ -167,3 +167,13 @@ pub finished :
     (s : Hasher) (m all r : List ℕ) → Holds s all → all ≡ padded m → r ≡ spread 8 (s .state) → r ≡ sha256 m
 unfolding sha256
 finished s m all r h e is = is ∙ ap (spread 8) (h .whole ∙ ap (λ l. blocks (length l / 64) l start) e)
+
+-- a digest and a code have 32 bytes
+length-spread : (n : ℕ) (ws : List ℕ) → length (spread n ws) ≡ 4 * n
+unfolding spread
+length-spread zero ws = refl
+length-spread (suc n) ws = length-append (spread n ws) _ ∙ (let ih = length-spread n ws in omega arith)
+
+pub length-sha256 : (m : List ℕ) → length (sha256 m) ≡ 32
+unfolding sha256
+length-sha256 m = length-spread 8 _
