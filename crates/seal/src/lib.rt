@@ -1,8 +1,10 @@
 // Locks: bytes sealed and opened with a key, each for its kind, and the digest of a key and a number.
+mod append;
 mod bytes;
 mod kind;
 mod locks;
 
+pub use append::append_lock;
 pub use bytes::digest;
 pub use kind::Kind;
 pub use locks::AROUND;
