@@ -86,14 +86,14 @@ pub fn open_in_place(kind: Kind, key: &[u8; 32], word: &mut [u8]) -> Result<(), 
     if word.len() < AROUND {
         return Err(Shut);
     }
-    let mac = Hmac::new(key);
+    let keyed = Hmac::new(key);
     let end = word.len() - 16;
     let mut given = [0u8; 16];
     given.copy_from_slice(&word[end..]);
-    if !same_sum(&given, &sum_of(mac, kind, &word[0..end])) {
+    if !same_sum(&given, &sum_of(keyed, kind, &word[0..end])) {
         return Err(Shut);
     }
-    turn_inside(mac, kind, word);
+    turn_inside(keyed, kind, word);
     Ok(())
 }
 

@@ -21,7 +21,7 @@ returns-then-not-same-sum c =
     let key = c .args .key .now in
     let w = c .args .word .now in
     let none : length w - 16 - 0 ≡ length w - 16 = omega arith in
-    let s = c .sum-of .ensures key (c .new-mac .ensures) ∙ ap (λ j. sum k key (take j w)) none in
+    let s = c .sum-of .ensures key (c .new-keyed .ensures) ∙ ap (λ j. sum k key (take j w)) none in
     let fit =
     fits-compared k key w (c .copy-from-slice .last .self) (c .sum-of .result) (c .same-sum .result)
     (c .if-word-lt-AROUND .left) (c .copy-from-slice .ensures .after) s (c .same-sum .ensures) in
@@ -34,10 +34,10 @@ returns c =
     let key = c .args .key .now in
     let w = c .args .word .now in
     let none : length w - 16 - 0 ≡ length w - 16 = omega arith in
-    let s = c .sum-of .ensures key (c .new-mac .ensures) ∙ ap (λ j. sum k key (take j w)) none in
+    let s = c .sum-of .ensures key (c .new-keyed .ensures) ∙ ap (λ j. sum k key (take j w)) none in
     let fit =
     fits-compared k key w (c .copy-from-slice .last .self) (c .sum-of .result) (c .same-sum .result)
     (c .if-word-lt-AROUND .left) (c .copy-from-slice .ensures .after) s (c .same-sum .ensures) in
     let t = tried-open k key w (c .turn-inside .last .word) (fit ∙ c .if-not-same-sum .left)
-    (c .turn-inside .ensures key (c .new-mac .ensures)) in
+    (c .turn-inside .ensures key (c .new-keyed .ensures)) in
     record { word = t .0; test = t .1; inside = t .2; again = opens-again; locks = opens-only }
