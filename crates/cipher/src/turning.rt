@@ -4,7 +4,7 @@ ghost use Prim.Native.Nat.{_≤_};
 ghost use lib.ListN.{length};
 ghost use lib.Bits.{bitXor};
 ghost use lib.Lanes.{zip2};
-ghost use Rattle.cipher.specs.ChaCha20.{later, blocksOf, turned, chacha20 as turnedBy};
+ghost use Rattle.cipher.specs.ChaCha20.{next, later, blocksOf, turned, block as blockOf, chacha20 as turnedBy};
 use crate::core_block::State;
 
 // XORs each byte with the byte of the key stream at its place.
@@ -18,15 +18,27 @@ fn xor(bytes: &mut [u8], key: &[u8; 64])
 }
 
 impl State {
+    // Turns a block of bytes, or what is left of one, and goes on to the next.
+    fn turn_block(&mut self, bytes: &mut [u8])
+        requires { ⌜ length (now bytes) ≤ 64 ⌝ }
+        ensures bytes { λ _. ⌜ now (bytes .exit) ≡ zip2 bitXor (now (bytes .entry)) (blockOf (now (self .entry) .words)) ⌝ }
+        ensures state { λ _. ⌜ now (self .exit) .words ≡ next (now (self .entry) .words) ⌝ }
+    {
+        xor(bytes, &self.block());
+        self.words[12] = self.words[12].wrapping_add(1);
+    }
+
     // Turns the bytes by the key stream from this state on, and leaves the state after the last block used.
     pub fn turn(&mut self, bytes: &mut [u8])
         ensures bytes { λ _. ⌜ now (bytes .exit) ≡ turned (now (self .entry) .words) (now (bytes .entry)) ⌝ }
         ensures state { λ _. ⌜ now (self .exit) .words ≡ later (blocksOf (length (now (bytes .entry)))) (now (self .entry) .words) ⌝ }
     {
-        for n in 0..(bytes.len() + 63) / 64 {
-            let end = bytes.len().min(64 * n + 64);
-            xor(&mut bytes[64 * n..end], &self.block());
-            self.words[12] = self.words[12].wrapping_add(1);
+        let whole = bytes.len() / 64;
+        for n in 0..whole {
+            self.turn_block(&mut bytes[64 * n..64 * n + 64]);
+        }
+        if bytes.len() % 64 > 0 {
+            self.turn_block(&mut bytes[64 * whole..]);
         }
     }
 }
