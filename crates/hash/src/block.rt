@@ -2,8 +2,8 @@
 ghost use mathlib.Core.Path.{_≡_};
 ghost use mathlib.Core.List.{List};
 ghost use Prim.Native.Nat.{ℕ, _+_, _/_, _<_, _≤_};
-ghost use lib.ListN.{length, take, set};
-ghost use Rattle.hash.specs.Sha256.{CH, MAJ, BSIG0, BSIG1, SSIG0, SSIG1, words, next, schedule, round as rounded, rounds, compressed, blocks};
+ghost use lib.ListN.{length, getD, take, set};
+ghost use Rattle.hash.specs.Sha256.{CH, MAJ, BSIG0, BSIG1, SSIG0, SSIG1, ks, words, next, schedule, round as rounded, rounds, compressed, blocks};
 
 const K: [u32; 64] = [
     0x428a2f98,
@@ -120,15 +120,16 @@ fn ssig1(x: u32) -> u32
     x.rotate_right(17) ^ x.rotate_right(19) ^ (x >> 10)
 }
 
-// One round of the working variables a to h.
-fn round(s: [u32; 8], k: u32, w: u32) -> [u32; 8]
-    ensures { λ r. ⌜ r ≡ rounded k w s ⌝ }
+// Round `n` of the working variables a to h.
+fn round(s: [u32; 8], w: &[u32; 64], n: usize) -> [u32; 8]
+    requires { ⌜ n < 64 ⌝ }
+    ensures { λ r. ⌜ r ≡ rounded (getD ks n 0) (getD (now (w .entry)) n 0) s ⌝ }
 {
     let [a, b, c, d, e, f, g, h] = s;
     let t1 = h.wrapping_add(bsig1(e))
         .wrapping_add(ch(e, f, g))
-        .wrapping_add(k)
-        .wrapping_add(w);
+        .wrapping_add(K[n])
+        .wrapping_add(w[n]);
     let t2 = bsig0(a).wrapping_add(maj(a, b, c));
     [t1.wrapping_add(t2), a, b, c, d.wrapping_add(t1), e, f, g]
 }
@@ -138,14 +139,14 @@ fn eight_rounds(s: [u32; 8], w: &[u32; 64], n: usize) -> [u32; 8]
     requires { ⌜ n + 8 ≤ 64 ⌝ }
     ensures { λ r. ⌜ ((t : List ℕ) → s ≡ rounds n (now (w .entry)) t → r ≡ rounds (n + 8) (now (w .entry)) t) ⌝ }
 {
-    let s = round(s, K[n], w[n]);
-    let s = round(s, K[n + 1], w[n + 1]);
-    let s = round(s, K[n + 2], w[n + 2]);
-    let s = round(s, K[n + 3], w[n + 3]);
-    let s = round(s, K[n + 4], w[n + 4]);
-    let s = round(s, K[n + 5], w[n + 5]);
-    let s = round(s, K[n + 6], w[n + 6]);
-    round(s, K[n + 7], w[n + 7])
+    let s = round(s, w, n);
+    let s = round(s, w, n + 1);
+    let s = round(s, w, n + 2);
+    let s = round(s, w, n + 3);
+    let s = round(s, w, n + 4);
+    let s = round(s, w, n + 5);
+    let s = round(s, w, n + 6);
+    round(s, w, n + 7)
 }
 
 // The 64 rounds from the working variables `state`, with the words of the schedule `w`.

@@ -1,11 +1,9 @@
 use Prim.Native.Nat.{_+_}
 use native.Mathlib.Omega.{arith}
-use Rattle.hash.specs.Sha256.{ks}
 use Rattle.hash.proofs.Rounds.{rounds-more}
 use Rattle.hash.proofs.block.eight_rounds.Needs as need
 
 pub returns : need.returns
-unfolding ks
 returns c t h =
     let w = c .args .w .now in
     let n = c .args .n in
