@@ -18,7 +18,7 @@ use Rattle.hash.specs.Hmac.{hmac}
 use Rattle.hash.proofs.Keys.{length-hmac}
 use Rattle.cipher.specs.ChaCha20.{setup, chacha20}
 use Rattle.cipher.proofs.Stream.{turned-back, length-turned}
-use Rattle.seal.specs.Lock.{Bytes, turn, sum, lock, bodyOf, sumOf, insideOf, same, fits, opens, sealed, unsealed, Opens-again, Opens-locks}
+use Rattle.seal.specs.Lock.{Bytes, turn, sum, lock, bodyOf, sumOf, insideOf, turnedIn, same, fits, opens, sealed, unsealed, Opens-again, Opens-locks}
 use Rattle.seal.proofs.Same.{same-refl, same-eq}
 
 module _ (kind : ℕ) (key : Bytes) where
@@ -144,14 +144,10 @@ opens-only kind key w xs e = opens-locks kind key w xs e
 
 -- what the code leaves in a word, as lists
 module _ (kind : ℕ) (key w : Bytes) where
-  -- the word with its inside turned
-  abbrev pub turnedWord : Bytes
-  turnedWord = take 16 w ++ (turn kind key (take 16 w) (insideOf w) ++ drop (length w - 16) w)
-
   pub turned-put :
       (code nonce ys : Bytes) → 32 ≤ length w → code ≡ hmac key (1 ∷ kind ∷ []) → nonce ≡ take 12 w
       → ys ≡ chacha20 code 0 nonce (take (length w - 16 - 16) (drop 16 w))
-      → putMid 16 (length w - 16 - 16) w ys ≡ turnedWord
+      → putMid 16 (length w - 16 - 16) w ys ≡ turnedIn kind key w
   unfolding turn
   turned-put code nonce ys le e n is =
       let k : length w - 16 - 16 ≡ length w - 32 = omega arith in
@@ -176,17 +172,17 @@ module _ (kind : ℕ) (key w : Bytes) where
         let d = length-inside in
         omega arith
 
-    regrouped : turnedWord ≡ (take 16 w ++ turn kind key (take 16 w) (insideOf w)) ++ drop (length w - 16) w
+    regrouped : turnedIn kind key w ≡ (take 16 w ++ turn kind key (take 16 w) (insideOf w)) ++ drop (length w - 16) w
     regrouped = sym (append-assoc (take 16 w) (turn kind key (take 16 w) (insideOf w)) (drop (length w - 16) w))
 
-    pub length-turnedWord : length turnedWord ≡ length w
-    length-turnedWord =
+    pub length-turnedIn : length (turnedIn kind key w) ≡ length w
+    length-turnedIn =
         ap length regrouped ∙ length-append (take 16 w ++ turn kind key (take 16 w) (insideOf w)) (drop (length w - 16) w)
         ∙ (let b = length-body in let d = length-drop (length w - 16) w in omega arith)
 
     -- the sum written at the end of it
     pub sealed-put :
-        (v s : Bytes) (a k : ℕ) → v ≡ turnedWord → a ≡ length w - 16 → k ≡ 16 → s ≡ sum kind key (take a v)
+        (v s : Bytes) (a k : ℕ) → v ≡ turnedIn kind key w → a ≡ length w - 16 → k ≡ 16 → s ≡ sum kind key (take a v)
         → putMid a k v s ≡ sealed kind key w
     unfolding sealed lock
     sealed-put v s a k e at size is =
@@ -221,13 +217,13 @@ module _ (kind : ℕ) (key w : Bytes) where
         absurd (let y : _≡_ {A = ℕ} 0 1 = cc in omega arith),
   )
 
-  pub tried-open : (v : Bytes) → fits kind key w ≡ true → v ≡ turnedWord → Tried v true
+  pub tried-open : (v : Bytes) → fits kind key w ≡ true → v ≡ turnedIn kind key w → Tried v true
   unfolding unsealed opens
   tried-open v fit e =
       let le = fits-long kind key w fit in
       let t = turn kind key (take 16 w) (insideOf w) in
       let n : length v - 32 ≡ length t =
-      let a = ap length e ∙ length-turnedWord le in
+      let a = ap length e ∙ length-turnedIn le in
       let b = length-turn kind key (take 16 w) (insideOf w) in
       let d = length-inside le in
       omega arith in

@@ -13,7 +13,6 @@ use mathlib.Core.Bool.{Bool, true, false, cond, _&&_}
 use Prim.Native.Nat.{ℕ, zero, suc, _+_, _-_, _*_}
 use lib.ListN.{length, getD, take, drop}
 use lib.Dec.{ltb, eqb}
-use Rattle.std.specs.Options.{Cases}
 use Rattle.std.specs.declared.option.Option.{Option}
 use Rattle.std.specs.declared.option.Option.the-variants.{Some, None}
 use Rattle.hash.specs.Sha256.{sha256}
@@ -23,7 +22,8 @@ use Rattle.cipher.specs.ChaCha20.{chacha20}
 abbrev pub Bytes : Type 0
 Bytes = List ℕ
 
--- the inside turned, or turned back: ChaCha20 under the code of 1 and the kind, with the first 12 drawn bytes as nonce and counter 0
+-- the inside turned, or turned back: ChaCha20 under the code of 1 and the kind, with the first 12 drawn bytes as
+-- nonce and counter 0
 unfoldable pub turn : ℕ → Bytes → Bytes → Bytes → Bytes
 turn kind key drawn bs = chacha20 (hmac key (1 ∷ kind ∷ [])) 0 (take 12 drawn) bs
 
@@ -46,6 +46,10 @@ sumOf w = drop (length w - 16) w
 abbrev pub insideOf : Bytes → Bytes
 insideOf w = take (length w - 32) (drop 16 w)
 
+-- a word with its inside turned
+abbrev pub turnedIn : ℕ → Bytes → Bytes → Bytes
+turnedIn kind key w = take 16 w ++ (turn kind key (take 16 w) (insideOf w) ++ sumOf w)
+
 -- whether two lists are the same
 unfoldable pub same : Bytes → Bytes → Bool
 same [] [] = true
@@ -65,9 +69,10 @@ opens kind key w = cond (fits kind key w) (Some (turn kind key (take 16 w) (insi
 unfoldable pub sealed : ℕ → Bytes → Bytes → Bytes
 sealed kind key w = cond (ltb (length w) 32) w (lock kind key (take 16 w) (insideOf w))
 
--- a word once opening was tried: what was inside stands between the drawn bytes and the sum; one that does not open stays
+-- a word once opening was tried: what was inside stands between the drawn bytes and the sum; one that does not
+-- open stays
 unfoldable pub unsealed : ℕ → Bytes → Bytes → Bytes
-unsealed kind key w = cond (fits kind key w) (take 16 w ++ (turn kind key (take 16 w) (insideOf w) ++ sumOf w)) w
+unsealed kind key w = cond (fits kind key w) (turnedIn kind key w) w
 
 -- what was locked opens with its key and kind, to what was inside
 abbrev pub Opens-again : Type 0

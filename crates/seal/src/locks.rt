@@ -1,17 +1,17 @@
 // Sealing and opening a word where it stands: 16 drawn bytes, the inside, and 16 bytes of sum.
 ghost use mathlib.Core.Path.{_≡_};
-ghost use mathlib.Core.List.{List, [], _∷_, _++_};
+ghost use mathlib.Core.List.{List, [], _∷_};
 ghost use mathlib.Core.Bool.{not};
-ghost use Prim.Native.Nat.{ℕ, _-_, _≤_};
+ghost use Prim.Native.Nat.{ℕ, _≤_};
 ghost use lib.Dec.{ltb};
-ghost use lib.ListN.{length, take, drop};
+ghost use lib.ListN.{length};
 ghost use Rattle.std.specs.Options.{isSome};
 ghost use Rattle.std.specs.Results.{isOk};
 ghost use Rattle.std.specs.declared.option.Option.the-variants.{Some};
 ghost use Rattle.hash.specs.Hasher.{Keyed};
 ghost use Rattle.hash.specs.Hmac.{hmac};
 ghost use Rattle.seal.specs.Kind.{numberOf};
-ghost use Rattle.seal.specs.Lock.{turn, sum, insideOf, opens, sealed, unsealed, Opens-again, Opens-locks};
+ghost use Rattle.seal.specs.Lock.{turnedIn, sum, insideOf, opens, sealed, unsealed, Opens-again, Opens-locks};
 use crate::bytes::same_sum;
 use crate::kind::Kind;
 use cipher::chacha20;
@@ -50,7 +50,7 @@ fn sum_of(mac: Hmac, kind: Kind, body: &[u8]) -> [u8; 16]
 // Turns what lies between the drawn bytes and the sum.
 fn turn_inside(mac: Hmac, kind: Kind, word: &mut [u8])
     requires { ⌜ 32 ≤ length (now word) ⌝ }
-    ensures { λ _. ⌜ ((key : List ℕ) → Keyed mac key [] → now (word .exit) ≡ take 16 (now (word .entry)) ++ (turn (numberOf kind) key (take 16 (now (word .entry))) (insideOf (now (word .entry))) ++ drop (length (now (word .entry)) - 16) (now (word .entry)))) ⌝ }
+    ensures { λ _. ⌜ ((key : List ℕ) → Keyed mac key [] → now (word .exit) ≡ turnedIn (numberOf kind) key (now (word .entry))) ⌝ }
 {
     let mut nonce = [0u8; 12];
     nonce.copy_from_slice(&word[0..12]);

@@ -6,7 +6,7 @@ use native.Mathlib.Omega.{arith}
 use Rattle.std.proofs.shelf.Tests.{lt-ltb, le-ltb}
 use Rattle.seal.specs.Kind.{numberOf}
 use Rattle.seal.specs.Lock.{sum}
-use Rattle.seal.proofs.Opening.{sealed-put, sealed-short, length-turnedWord}
+use Rattle.seal.proofs.Opening.{sealed-put, sealed-short, length-turnedIn}
 use Rattle.seal.proofs.locks.seal_in_place.Needs as need
 
 pub returns-then-word-lt-AROUND : need.returns-then-word-lt-AROUND
@@ -25,7 +25,7 @@ returns c =
     let v = c .turn-inside .last .word in
     let le = c .if-word-lt-AROUND .left in
     let turned = c .turn-inside .ensures key (c .new-mac .ensures) in
-    let n : length v ≡ length w = ap length turned ∙ length-turnedWord k key w le in
+    let n : length v ≡ length w = ap length turned ∙ length-turnedIn k key w le in
     let none : length v - 16 - 0 ≡ length v - 16 = omega arith in
     record {
       word =
