@@ -4,4 +4,3 @@ pub mod Event
 pub mod Promise
 pub mod Cases
 pub mod Premise
-pub mod Code
