@@ -20,11 +20,11 @@ static double now(void) {
 
 #define BEST(time, runs, times, call) \
   double time = 1e9; \
-  for (int r = 0; r < runs; r++) { \
-    double from = now(); \
-    for (int i = 0; i < times; i++) { call; } \
-    double one = (now() - from) / times; \
-    if (one < time) time = one; \
+  for (int run_ = 0; run_ < runs; run_++) { \
+    double from_ = now(); \
+    for (int time_ = 0; time_ < times; time_++) { call; } \
+    double one_ = (now() - from_) / times; \
+    if (one_ < time) time = one_; \
   }
 
 #define BYTES 16384
