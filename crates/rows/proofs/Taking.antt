@@ -427,11 +427,11 @@ module _ (c : Setting) (n : Naming (c .own)) {K : List Closing} {p : ℕ} {s : S
   found (Session k) q e h new =
       let z = oldest-found (AtHouse k (l .number) (l .service)) (s .box a .askings) q e in
       let m1 = and-left (eqb (q .asks) 0) (sameBytes (q .key .0) (k .0) && (sameBytes (q .number .0) (l .number .0) && eqb (q .line .service) (l .service))) (z .1) in
-      let r1 = and-right (eqb (q .asks) 0) (sameBytes (q .key .0) (k .0) && (sameBytes (q .number .0) (l .number .0) && eqb (q .line .service) (l .service))) (z .1) in
-      let m2 = and-left (sameBytes (q .key .0) (k .0)) (sameBytes (q .number .0) (l .number .0) && eqb (q .line .service) (l .service)) r1 in
-      let r2 = and-right (sameBytes (q .key .0) (k .0)) (sameBytes (q .number .0) (l .number .0) && eqb (q .line .service) (l .service)) r1 in
-      let m3 = and-left (sameBytes (q .number .0) (l .number .0)) (eqb (q .line .service) (l .service)) r2 in
-      let m4 = and-right (sameBytes (q .number .0) (l .number .0)) (eqb (q .line .service) (l .service)) r2 in
+      let after-asks = and-right (eqb (q .asks) 0) (sameBytes (q .key .0) (k .0) && (sameBytes (q .number .0) (l .number .0) && eqb (q .line .service) (l .service))) (z .1) in
+      let m2 = and-left (sameBytes (q .key .0) (k .0)) (sameBytes (q .number .0) (l .number .0) && eqb (q .line .service) (l .service)) after-asks in
+      let after-key = and-right (sameBytes (q .key .0) (k .0)) (sameBytes (q .number .0) (l .number .0) && eqb (q .line .service) (l .service)) after-asks in
+      let m3 = and-left (sameBytes (q .number .0) (l .number .0)) (eqb (q .line .service) (l .service)) after-key in
+      let m4 = and-right (sameBytes (q .number .0) (l .number .0)) (eqb (q .line .service) (l .service)) after-key in
       at-asking k q (z .0) (eqb-true (q .asks) 0 m1) (same-eq _ _ m2) (same-eq _ _ m3) (eqb-true _ _ m4) (h .letter-heard) new
 
   pub takes-so : (u : Under) → HeardLetter c n s a u l → Answered u (letter.taken (s .box a) u l) (letter.takenAfter (s .box a) u l tt)
