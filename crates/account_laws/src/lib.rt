@@ -1,4 +1,6 @@
 // What holds of the accounts file: each theorem is a clause of a function here.
+#![tactic(auto)]
+
 ghost use Rattle.account_laws.specs.Codec.{Back, ByValue};
 ghost use Rattle.account_laws.specs.Falls.{Answering, Falling, Happening, Rising, Starting, Staying};
 

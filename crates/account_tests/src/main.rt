@@ -1,4 +1,6 @@
 // The accounts file in bytes, what cut writes leave, and a table of damages: each ends in what a half holds, or in fault 13.
+#![tactic(auto)]
+
 mod damage;
 
 use accounts::AccountFile;

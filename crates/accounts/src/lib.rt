@@ -1,4 +1,6 @@
 // The house's accounts in a file of two halves: no closing that was answered is ever undone.
+#![tactic(auto)]
+
 mod entry;
 mod file;
 mod payload;

@@ -1,4 +1,5 @@
 // What a reader's box does: with a line of its reader, a letter, a receipt and a refusal.
+#![tactic(auto)]
 
 mod answer;
 mod ask;

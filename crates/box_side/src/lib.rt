@@ -1,5 +1,6 @@
 // A reader's box over bytes: its reader's lines and the words of the line in, words for the line out. What it does is
 // what the decisions of `box_rules` say; it frames, opens, locks and writes. Want of memory leaves a box as it was.
+#![tactic(auto)]
 
 mod hear;
 mod open;

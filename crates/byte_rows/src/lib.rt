@@ -2,6 +2,7 @@
 // premises of specs/Premise.antt, is a row of opened contents, and so a run of the model.
 // Nothing runs here: each function's contract is a theorem over lists of calls, stated with the very definitions that the contracts
 // of the sides cite; for every fair way to lock, and for the locks of this code.
+#![tactic(auto)]
 
 ghost use Rattle.byte_rows.specs.Happens.{CanHappen};
 ghost use Rattle.byte_rows.specs.Premise.{Fair};

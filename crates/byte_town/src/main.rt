@@ -1,4 +1,6 @@
 // The program `town`: plays the scripts in the files that its arguments name, each in a town of its own, or the one on standard input.
+#![tactic(auto)]
+
 use anyhow::anyhow;
 use commands::line::Line;
 use commands::lines::{first_line, read};

@@ -1,4 +1,6 @@
 // Words and insides in bytes, read and written, are each other's inverse: each theorem is a clause of a function here.
+#![tactic(auto)]
+
 ghost use Rattle.codec.specs.Law.{AskingCodec, LetterCodec, LoginCodec, ReceiptCodec, TicketCodec, WordCodec, WordCut, WordLonger};
 
 // Each inside that is written reads back, and each that is read is the one that is written; nothing else is read.

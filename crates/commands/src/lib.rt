@@ -1,4 +1,6 @@
 // The commands of a town's script: how a text is cut into lines, and what each line says.
+#![tactic(auto)]
+
 mod arguments;
 pub mod laws;
 pub mod line;

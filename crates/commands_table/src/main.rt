@@ -1,4 +1,6 @@
 // Reads lines of a town's script, whole and damaged, and prints what each says, or 13 where it can't be read.
+#![tactic(auto)]
+
 mod shown;
 
 use commands::lines::first_line;

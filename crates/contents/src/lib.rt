@@ -1,4 +1,5 @@
 // What stands inside the five kinds of locks, in bytes: read to its exact end, and written.
+#![tactic(auto)]
 
 mod field;
 mod inside;

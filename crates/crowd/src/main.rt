@@ -1,5 +1,7 @@
 // The program `crowd`: plays a town by lines that are each said a number of times, and prints only the faults and the total.
 // So a memory can be filled and drawn bytes used up by a script of some lines.
+#![tactic(auto)]
+
 use anyhow::anyhow;
 use commands::line::Line;
 use commands::lines::{first_line, read};

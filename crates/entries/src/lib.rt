@@ -1,4 +1,6 @@
 // What is remembered of things done: digests and ticks side by side, and in bytes.
+#![tactic(auto)]
+
 mod bytes;
 mod format;
 mod list;

@@ -1,4 +1,6 @@
 // A payload in two halves of a device, written by turns: a write that is cut never loses what the other half holds.
+#![tactic(auto)]
+
 mod device;
 mod format;
 mod half;

@@ -1,4 +1,6 @@
 // SHA-256 and HMAC-SHA-256, of whole messages and of messages that come in parts.
+#![tactic(auto)]
+
 mod block;
 mod keyed;
 mod message;

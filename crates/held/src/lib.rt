@@ -1,4 +1,5 @@
 // Memory, accounts and drawn bytes held by value, beneath the decisions' traits.
+#![tactic(auto)]
 
 mod memory;
 mod register;

@@ -1,4 +1,5 @@
 // What the house decides: logins, askings for tickets, and the opening and closing of accounts.
+#![tactic(auto)]
 
 mod accounts;
 mod ask;

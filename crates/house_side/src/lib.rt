@@ -1,4 +1,5 @@
 // The house over bytes: it hears words, and answers by its decisions.
+#![tactic(auto)]
 
 mod heard;
 mod house;

@@ -1,4 +1,6 @@
 // The judge of the town as the town calls him, and what his verdicts are worth.
+#![tactic(auto)]
+
 ghost use Rattle.judge_rules.specs.Judge.{act_of, judged, seen, verdict};
 ghost use Rattle.judge.specs.Example.{Met, Worked};
 ghost use Rattle.judge.specs.Hearing.{KnowingAll, NamedFirst, NeverUnasked, NoneUnasked, Settled};

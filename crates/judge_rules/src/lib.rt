@@ -1,4 +1,5 @@
 // What the judge of the town decides: whether a deed was asked, by the lines and the thefts so far.
+#![tactic(auto)]
 
 mod find;
 mod judge;

@@ -1,4 +1,5 @@
 // What stands in a lock, as a value: locks opened with a key, and read.
+#![tactic(auto)]
 
 mod open;
 

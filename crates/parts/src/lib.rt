@@ -1,4 +1,5 @@
 // What stands in tickets, letters, logins, askings and receipts, by value; the faults and the conditions that give them.
+#![tactic(auto)]
 
 mod account;
 mod condition;

@@ -1,4 +1,5 @@
 // A town: a house, services and readers' boxes over one net that belongs to outsiders, played by the lines of a script.
+#![tactic(auto)]
 
 mod accounts;
 mod bring;

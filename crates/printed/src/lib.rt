@@ -1,4 +1,5 @@
 // Text that is printed, written word by word: bytes as they are, decimals, and hex.
+#![tactic(auto)]
 
 mod text;
 mod write;

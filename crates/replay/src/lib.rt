@@ -1,4 +1,6 @@
 // The memory against repeating, on a device of two halves.
+#![tactic(auto)]
+
 mod memory;
 mod write;
 

@@ -1,6 +1,7 @@
 // Rows of events: whatever house, boxes and services do by their decisions is a run of the model.
 // Nothing runs here: each function's contract is a theorem over lists of what happened, stated with the very definitions
 // that the contracts of the decisions cite.
+#![tactic(auto)]
 
 ghost use Rattle.rows.specs.Faults.{WorkedFaults};
 ghost use Rattle.rows.specs.Happens.{CanHappen};

@@ -1,4 +1,6 @@
 // Locks: bytes sealed and opened with a key, each for its kind, and the digest of a key and a number.
+#![tactic(auto)]
+
 mod append;
 mod bytes;
 mod kind;

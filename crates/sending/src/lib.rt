@@ -1,4 +1,5 @@
 // What the house and the services send: contents written and locked, and the words around the locks.
+#![tactic(auto)]
 
 mod make;
 mod put;

@@ -1,4 +1,5 @@
 // What a service decides on an opened ticket and asking, and what it remembers against repeating.
+#![tactic(auto)]
 
 mod answer;
 mod decide;

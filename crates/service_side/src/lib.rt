@@ -1,4 +1,5 @@
 // A service over bytes: it hears words, and answers by its decision.
+#![tactic(auto)]
 
 mod heard;
 mod service;

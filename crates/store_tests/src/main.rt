@@ -1,4 +1,6 @@
 // The memory's device in bytes, what cut writes leave, and twelve damages: each ends in remembering or in waiting.
+#![tactic(auto)]
+
 use halves::{Device, Which};
 use memory_device::{Ends, MemoryDevice};
 use replay::ReplayMemory;

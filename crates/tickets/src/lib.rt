@@ -1,5 +1,6 @@
 // The model of the ticket house: what may happen, and what is promised of every state that can be reached.
 // Nothing runs here: each function's contract is a theorem about the definitions in specs/.
+#![tactic(auto)]
 
 ghost use Rattle.tickets.specs.Cases.{WorkedCases};
 ghost use Rattle.tickets.specs.Promise.{Always, AskedFor, AskingMade, Fresh, Granted, Heard, HouseGave, Kept, LoggedIn, Main, NoTicket, Once, OnceByNumber, Over, OwnKept, Served, TicketAsked, TicketMade};

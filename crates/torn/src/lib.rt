@@ -1,4 +1,5 @@
 // A memory and accounts held by value whose next write can be cut: the side that owns them crashes then.
+#![tactic(auto)]
 
 mod ledger;
 mod ledger_tear;

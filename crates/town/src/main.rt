@@ -1,4 +1,6 @@
 // The program `town`: plays the script in the file that its argument names, or on standard input.
+#![tactic(auto)]
+
 use anyhow::anyhow;
 use script::lines::first_line;
 use script::town::{Answer, Town};

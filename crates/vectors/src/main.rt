@@ -1,5 +1,7 @@
 // Runs test vectors of SHA-256, HMAC, ChaCha20, digests and locks, a line of standard input each, and says which
 // lines do not agree. The last line that it writes is how many agree.
+#![tactic(auto)]
+
 use anyhow::anyhow;
 use cipher::{State, chacha20};
 use hash::{Hasher, Hmac, hmac_sha256, sha256};

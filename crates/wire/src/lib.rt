@@ -1,4 +1,5 @@
 // The five words of the line, in bytes: read to the end or the first fault, and written.
+#![tactic(auto)]
 
 mod word;
 

@@ -1,4 +1,6 @@
 // Reads a table of words and insides, whole and damaged, and prints what each is read as, or its fault.
+#![tactic(auto)]
+
 mod table;
 
 use table::answer;
