@@ -7,7 +7,7 @@ use Rattle.account_laws.specs.Codec.{Full}
 use Rattle.account_laws.specs.Falls.{Answered, Answering, Fair, Falling, Happening, Leaves, Rise, Risen, Rising, Run, Starting, Staying, calls, falls, rests}
 use Rattle.accounts.specs.Bytes.{steady}
 use Rattle.accounts.specs.Entry.{Sized, above, opens_with}
-use Rattle.accounts.specs.File.{Begins, Changes, Kept, State, Tries, accounts_on, all_in_lem, begun, goes, holding, rises, state, whole}
+use Rattle.accounts.specs.File.{Begins, Changes, Kept, State, Tries, accounts_on, all_in, begun, goes, holding, rises, state, whole}
 use Rattle.accounts.specs.Payload.{accounts_in, measure, payload}
 use Rattle.halves.proofs.Finding.{failing, starting, writing}
 use Rattle.halves.proofs.Parts.{length-half}
@@ -168,7 +168,7 @@ wholly xs h b s ys f g e =
     let v : whole c ≡ true = whole-still b c g.which s.size (block-other g.which (over (half g.turn p) old) b) len in
     record {
       size = v;
-      finds = cond-true (whole c) (all_in_lem (payload_of (standing measure c).newest c)) None v ∙ ap all_in_lem w.1 ∙ all_in_lem p k.0 ∙ ap Some k.2;
+      finds = cond-true (whole c) (all_in (payload_of (standing measure c).newest c)) None v ∙ ap all_in w.1 ∙ all_in_lem p k.0 ∙ ap Some k.2;
       stands = w.2;
       holds = ap accounts_in q ∙ k.2;
     }

@@ -4,7 +4,7 @@ use Rattle.account_laws.proofs.Codec.{full-in}
 use Rattle.account_laws.specs.Codec.{Full}
 use Rattle.account_laws.specs.Falls.{Rise, Risen}
 use Rattle.accounts.specs.Bytes.{measure-some}
-use Rattle.accounts.specs.File.{accounts_on, all_in_lem, whole}
+use Rattle.accounts.specs.File.{accounts_on, all_in, whole}
 use Rattle.accounts.specs.Payload.{accounts_in, measure}
 use Rattle.halves.proofs.Finding.{starting}
 use Rattle.halves.specs.Blocks.{Blocks, block, other}
@@ -93,7 +93,7 @@ good-part x t n e =
     ap (λ (j : ℕ). length (take j (drop 8 x))) g.0
     ∙ length-take-le 33792 (drop 8 x) (omega (arith, length-drop 8 x, g.1))
 
-pub all_in_lem : (p : List ℕ) → length p ≡ 33792 → all_in_lem p ≡ Some (accounts_in p)
+pub all_in_lem : (p : List ℕ) → length p ≡ 33792 → all_in p ≡ Some (accounts_in p)
 all_in_lem p l = cond-true (eqb (length p) 33792) (Some (accounts_in p)) None (eq-eqb (length p) 33792 l)
 
 -- where one half is good, one is the newest
@@ -127,8 +127,8 @@ newest-stands b g e = go (standing measure b).newest (standing measure b).last e
 pub on-newest : (b : Blocks) (g : Good) → whole b ≡ true → (standing measure b).newest ≡ Some g
     → accounts_on (standing measure b) b ≡ Some (accounts_in (payload_of (Some g) b))
 on-newest b g v e =
-    cond-true (whole b) (all_in_lem (payload_of (standing measure b).newest b)) None v
-    ∙ ap (λ (o : Option Good). all_in_lem (payload_of o b)) e
+    cond-true (whole b) (all_in (payload_of (standing measure b).newest b)) None v
+    ∙ ap (λ (o : Option Good). all_in (payload_of o b)) e
     ∙ all_in_lem (payload_of (Some g) b) (good-part (block g.which b) g.turn g.len (newest-stands b g e))
 
 -- where one half is good, a start finds accounts

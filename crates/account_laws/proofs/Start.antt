@@ -6,7 +6,7 @@ use Rattle.account_laws.specs.Codec.{Full}
 use Rattle.account_laws.specs.Falls.{Rise, Risen}
 use Rattle.accounts.specs.Bytes.{measure-is, steady}
 use Rattle.accounts.specs.Entry.{account_in, key_bytes, stated}
-use Rattle.accounts.specs.File.{Begins, State, accounts_on, all_in_lem, begun, holding, state, whole}
+use Rattle.accounts.specs.File.{Begins, State, accounts_on, all_in, begun, holding, state, whole}
 use Rattle.accounts.specs.Payload.{account_at, accounts_in, low, measure}
 use Rattle.halves.proofs.Written.{decoded-after, part-after}
 use Rattle.halves.specs.Blocks.{Blocks, Writes, block, other, over, put}
@@ -39,11 +39,11 @@ held-is h b s e = on (whole b) refl e
     by g true w n l f = record { good = g; newest = n; size = w; len = eqb-true _ 33792 l; same = (cc) }
     by g false w n l f = let z : ◌≡◌ {A = ℕ} 0 1 = cc in absurd (omega arith)
 
-    at : (o : Option Good) → whole b ≡ true → h.newest ≡ o → Some s ≡ holding (all_in_lem (payload_of o b)) h b → Held h b s
+    at : (o : Option Good) → whole b ≡ true → h.newest ≡ o → Some s ≡ holding (all_in (payload_of o b)) h b → Held h b s
     at None w n f = let z : ◌≡◌ {A = ℕ} 0 1 = cc in absurd (omega arith)
     at (Some g) w n f = by g (eqb (length (payload_of (Some g) b)) 33792) w n refl f
 
-    on : (v : Bool) → whole b ≡ v → Some s ≡ holding (cond v (all_in_lem (payload_of h.newest b)) None) h b → Held h b s
+    on : (v : Bool) → whole b ≡ v → Some s ≡ holding (cond v (all_in (payload_of h.newest b)) None) h b → Held h b s
     on true w f = at h.newest w refl f
     on false w f = let z : ◌≡◌ {A = ℕ} 0 1 = cc in absurd (omega arith)
 

@@ -21,7 +21,7 @@ use Rattle.commands.specs.declared.line.Place.{Place}
 use Rattle.commands.specs.declared.line.Place.TheVariants as place
 use Rattle.commands.specs.declared.line.Side.{Side}
 use Rattle.commands.specs.declared.line.Side.TheVariants as side
-use Rattle.commands.specs.Arguments.{ticket_of, ticket_then, initial_of, lettered, side_of, side_then_lem, place_of, piece_of, piece_then_lem, kind_numbered, kind_of, kind_then, key_then, short_of, short_then, left_of, writes_of}
+use Rattle.commands.specs.Arguments.{ticket_of, ticket_then, initial_of, lettered, side_of, side_then, place_of, piece_of, piece_then, kind_numbered, kind_of, kind_then, key_then, short_of, short_then, left_of, writes_of}
 use Rattle.commands.specs.Laws.{spaced, key_text, kind_text, ticket_text, side_text, place_text, piece_text, left_text, writes_text, Small, SmallTicket, SmallPiece}
 use Rattle.commands.proofs.Ifs.{If, if-any, if-then, if-each}
 
@@ -110,7 +110,7 @@ side-text w =
     (λ p joins. if-then (Is Any decimal p.1) (Is Any side_text w) (principal_of p.1) _ (principal-text p.1)
     (λ n is. letter-text w p n joins (is tt))))
 
-pub side_then_lem : (s : List ℕ) → If (Begins Any side_text s) (side_then_lem s)
+pub side_then_lem : (s : List ℕ) → If (Begins Any side_text s) (side_then s)
 side_then_lem s = then-text Any side_text side_of side-text s
 
 place-text : (w : List ℕ) → If (Is Any place_text w) (place_of w)
@@ -125,7 +125,7 @@ piece-text w =
     (λ n is. if-then (Is Any place_text p.1) (Is SmallPiece piece_text w) (place_of p.1) _ (place-text p.1)
     (λ i at small. joins ∙ (λ j. is small j ++ (46 ∷ at tt j)))))
 
-pub piece_then_lem : (s : List ℕ) → If (Begins SmallPiece piece_text s) (piece_then_lem s)
+pub piece_then_lem : (s : List ℕ) → If (Begins SmallPiece piece_text s) (piece_then s)
 piece_then_lem s = then-text SmallPiece piece_text piece_of piece-text s
 
 -- the decimal of a kind

@@ -10,7 +10,7 @@ use Rattle.commands.specs.declared.line.Settings.{Settings}
 use Rattle.commands.specs.declared.line.Side.{Side}
 use Rattle.commands.specs.declared.verbs.Verb.{Verb}
 use Rattle.commands.specs.declared.verbs.Verb.TheVariants as verb
-use Rattle.commands.specs.Arguments.{ticket_then, side_of, side_then_lem, piece_of, piece_then_lem, kind_then, key_then, short_then, left_of, writes_of}
+use Rattle.commands.specs.Arguments.{ticket_then, side_of, side_then, piece_of, piece_then, kind_then, key_then, short_then, left_of, writes_of}
 use Rattle.commands.specs.Grammar.{settings_of, account_of, wish_of, repeat_of, login_of, letter_of, asking_of, join_numbered, join_of, making_of, opening_of, cut_of, device_of, says_of, saying_of, silent, read_of}
 use Rattle.commands.specs.Laws.{spaced, key_text, kind_text, ticket_text, side_text, piece_text, left_text, writes_text, settings_text, account_text, wish_text, join_text, making_text, opening_text, line_text, Small, SmallTicket, SmallPiece, SmallJoin, Plain, LinesAreExact}
 use Rattle.commands.specs.Said as say
@@ -78,13 +78,13 @@ login-text s =
 
 letter-text : (s : List ℕ) → If (Joins 2 s) (letter_of s)
 letter-text s =
-    if-then (Begins SmallPiece piece_text s) (Joins 2 s) (piece_then_lem s) _ (piece_then_lem s)
+    if-then (Begins SmallPiece piece_text s) (Joins 2 s) (piece_then s) _ (piece_then_lem s)
     (λ a first. if-then (Is SmallPiece piece_text a.1) (Joins 2 s) (piece_of a.1) _ (piece-text a.1)
     (λ p last small. ap (spaced (decimal 2)) (first small.0 ∙ ap (spaced (piece_text a.0)) (last small.1))))
 
 asking-text : (s : List ℕ) → If (Joins 3 s) (asking_of s)
 asking-text s =
-    if-then (Begins SmallPiece piece_text s) (Joins 3 s) (piece_then_lem s) _ (piece_then_lem s)
+    if-then (Begins SmallPiece piece_text s) (Joins 3 s) (piece_then s) _ (piece_then_lem s)
     (λ a first. if-then (Is SmallPiece piece_text a.1) (Joins 3 s) (piece_of a.1) _ (piece-text a.1)
     (λ p last small. ap (spaced (decimal 3)) (first small.0 ∙ ap (spaced (piece_text a.0)) (last small.1))))
 
@@ -118,7 +118,7 @@ SmallOpening o = SmallPiece o.lock
 
 opening-text : (s : List ℕ) → If (Is SmallOpening opening_text s) (opening_of s)
 opening-text s =
-    if-then (Begins SmallPiece piece_text s) (Is SmallOpening opening_text s) (piece_then_lem s) _ (piece_then_lem s)
+    if-then (Begins SmallPiece piece_text s) (Is SmallOpening opening_text s) (piece_then s) _ (piece_then_lem s)
     (λ a first. if-then (Begins Any kind_text a.1) (Is SmallOpening opening_text s) (kind_then a.1) _ (kind-then a.1)
     (λ b second. if-then (Is Any key_text b.1) (Is SmallOpening opening_text s) (key_of b.1) _ (key-text b.1)
     (λ k last small. first small ∙ ap (spaced (piece_text a.0)) (second tt ∙ ap (spaced (kind_text b.0)) (last tt)))))
@@ -128,7 +128,7 @@ cut_text x = spaced (side_text x.0) (left_text x.1)
 
 cuts-text : (s : List ℕ) → If (Is Any cut_text s) (cut_of s)
 cuts-text s =
-    if-then (Begins Any side_text s) (Is Any cut_text s) (side_then_lem s) _ (side_then_lem s)
+    if-then (Begins Any side_text s) (Is Any cut_text s) (side_then s) _ (side_then_lem s)
     (λ a first. if-then (Is Any left_text a.1) (Is Any cut_text s) (left_of a.1) _ (left-text a.1)
     (λ x last _. first tt ∙ ap (spaced (side_text a.0)) (last tt)))
 
@@ -137,7 +137,7 @@ device_text x = spaced (side_text x.0) (writes_text x.1)
 
 device-text : (s : List ℕ) → If (Is Any device_text s) (device_of s)
 device-text s =
-    if-then (Begins Any side_text s) (Is Any device_text s) (side_then_lem s) _ (side_then_lem s)
+    if-then (Begins Any side_text s) (Is Any device_text s) (side_then s) _ (side_then_lem s)
     (λ a first. if-then (Is Any writes_text a.1) (Is Any device_text s) (writes_of a.1) _ (writes-text a.1)
     (λ x last _. first tt ∙ ap (spaced (side_text a.0)) (last tt)))
 

@@ -28,7 +28,7 @@ use Rattle.house_rules.specs.House.{Home, until_of, wanted, missing, misled, rea
 use Rattle.house_rules.specs.House as house
 use Rattle.house_rules.specs.declared.give.Given.{Given}
 use Rattle.house_rules.specs.declared.reply.Reply.TheVariants.{Refused as NotGranted}
-use Rattle.box_rules.specs.Chest.{asked, asking_of, two_bytes_lem}
+use Rattle.box_rules.specs.Chest.{asked, asking_of, two_bytes}
 use Rattle.box_rules.specs.Table.{matches, oldest, older}
 use Rattle.box_rules.specs.Line as line
 use Rattle.box_rules.specs.Letter as letter
@@ -146,7 +146,7 @@ not-under-way c n k j ps x b e h p m = go (either (bytes_eq p.number.0 x))
         absurd (omega arith)
 
 -- the service's number in two bytes is read again
-pub two_bytes_lem : (v : ℕ) → get_or (two_bytes_lem v).bytes 0 0 * 256 + get_or (two_bytes_lem v).bytes 1 0 ≡ v
+pub two_bytes_lem : (v : ℕ) → get_or (two_bytes v).bytes 0 0 * 256 + get_or (two_bytes v).bytes 1 0 ≡ v
 two_bytes_lem v = omega arith
 
 -- a ticket for the house, and an asking for it
@@ -154,7 +154,7 @@ abbrev pub house_t : (a : ℕ) → Key → ℕ → Ticket
 house_t a k until = record { service = 0; reader = a; key = k; until = until }
 
 abbrev pub house_q : (v : ℕ) → Number → ℕ → Asking
-house_q v m t = record { service = 0; number = m; what = two_bytes_lem v; tick = t }
+house_q v m t = record { service = 0; number = m; what = two_bytes v; tick = t }
 
 -- an asking that the house finds in order
 pub record HouseFine (h : Home) (a v until t d : ℕ) : Type 0 where

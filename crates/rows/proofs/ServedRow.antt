@@ -22,7 +22,7 @@ use Rattle.house_rules.specs.Give.{giving}
 use Rattle.house_rules.specs.House.{Home, until_of}
 use Rattle.house_rules.specs.House as house
 use Rattle.house_rules.specs.declared.reply.Reply.{Reply}
-use Rattle.box_rules.specs.Chest.{asked, asking_of, two_bytes_lem}
+use Rattle.box_rules.specs.Chest.{asked, asking_of, two_bytes}
 use Rattle.box_rules.specs.Table.{matches}
 use Rattle.box_rules.specs.Line as line
 use Rattle.box_rules.specs.Letter as letter
@@ -340,7 +340,7 @@ module _ (c : Setting) (n : Naming c.own) (s : System) (a v : ℕ) (w : What) wh
     -- what is asked is the line's words, at the line's tick
     asking₅ : (asking_of b₂ k₂ v the_line).inside ≡ asking₂
     asking₅ =
-        ap (λ (e : Bool). record { service = v; number = m₃; what = cond e (two_bytes_lem v) w; tick = cond e b.now b.now }) not-house
+        ap (λ (e : Bool). record { service = v; number = m₃; what = cond e (two_bytes v) w; tick = cond e b.now b.now }) not-house
 
     air-is₅ : s₅.air ≡ air₅
     air-is₅ =

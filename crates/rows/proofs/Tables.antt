@@ -6,7 +6,7 @@ use lib.ListN.{length-replicate}
 use Rattle.std.specs.Str.{bytes_eq}
 use Rattle.parts.specs.declared.word.Key.{Key}
 use Rattle.parts.specs.declared.word.Number.{Number}
-use Rattle.box_rules.specs.Chest.{two_bytes_lem}
+use Rattle.box_rules.specs.Chest.{two_bytes}
 use Rattle.box_rules.specs.Line.{pass_of, pass_by}
 use Rattle.box_rules.specs.Table.{put, without, matches, older, oldest}
 use Rattle.box_rules.specs.declared.line.Held.{Held}
@@ -92,7 +92,7 @@ pass-by None hs q e = absurd (let z : ◌≡◌ {A = ℕ} 0 1 = cc in omega arit
 pass-by (Some i) hs q e = pass-held i hs q e
 
 -- a service's number in two bytes, read again
-pub two_bytes_lem : (v : ℕ) → get_or (two_bytes_lem v).bytes 0 0 * 256 + get_or (two_bytes_lem v).bytes 1 0 ≡ v
+pub two_bytes_lem : (v : ℕ) → get_or (two_bytes v).bytes 0 0 * 256 + get_or (two_bytes v).bytes 1 0 ≡ v
 two_bytes_lem v = two (replicate {A = ℕ} 1024 0) (length-replicate {A = ℕ} 1024 0)
   where
     two : (xs : List ℕ) → length xs ≡ 1024 → get_or (set (set xs 0 (v / 256)) 1 (v % 256)) 0 0 * 256 + get_or (set (set xs 0 (v / 256)) 1 (v % 256)) 1 0 ≡ v

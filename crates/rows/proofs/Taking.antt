@@ -9,7 +9,7 @@ use Rattle.parts.proofs.Conditions.{passed}
 use Rattle.parts.specs.declared.fault.Fault.{Fault}
 use Rattle.parts.specs.declared.word.Key.{Key as Bytes32}
 use Rattle.parts.specs.declared.word.Letter.{Letter}
-use Rattle.box_rules.specs.Chest.{two_bytes_lem}
+use Rattle.box_rules.specs.Chest.{two_bytes}
 use Rattle.box_rules.specs.Chest as chest
 use Rattle.box_rules.specs.Letter as letter
 use Rattle.box_rules.specs.Table.{oldest, matches, without}
@@ -218,7 +218,7 @@ module _ (c : Setting) (n : Naming c.own) {K : List Closing} {p : ℕ} {s : Syst
 
       word : asking_term n.name l.key (chest.asking_of (s.box a) l.key l.service q.line).inside ≡ events.asking_of q₀
       word =
-          ap (λ (b : Bool). events.asking (n.name l.key.0) l.service (n.name (number_of (s.box a).left).0) (cond b (Num (get_or (cond b (two_bytes_lem q.line.service) q.line.what).bytes 0 0 * 256 + get_or (cond b (two_bytes_lem q.line.service) q.line.what).bytes 1 0)) (spell (words_of (cond b (two_bytes_lem q.line.service) q.line.what)))) (cond b (s.box a).now q.line.tick)) is-house
+          ap (λ (b : Bool). events.asking (n.name l.key.0) l.service (n.name (number_of (s.box a).left).0) (cond b (Num (get_or (cond b (two_bytes q.line.service) q.line.what).bytes 0 0 * 256 + get_or (cond b (two_bytes q.line.service) q.line.what).bytes 1 0)) (spell (words_of (cond b (two_bytes q.line.service) q.line.what)))) (cond b (s.box a).now q.line.tick)) is-house
           ∙ (let j = drawn-is c n o _ new in
           let k = ok.now-is in
           let u = two_bytes_lem q.line.service in
@@ -359,7 +359,7 @@ module _ (c : Setting) (n : Naming c.own) {K : List Closing} {p : ℕ} {s : Syst
 
       word : asking_term n.name l.key (chest.asking_of (s.box a) l.key l.service q.line).inside ≡ events.asking_of q₀
       word =
-          ap (λ (b : Bool). events.asking (n.name l.key.0) l.service (n.name (number_of (s.box a).left).0) (cond b (Num (get_or (cond b (two_bytes_lem q.line.service) q.line.what).bytes 0 0 * 256 + get_or (cond b (two_bytes_lem q.line.service) q.line.what).bytes 1 0)) (spell (words_of (cond b (two_bytes_lem q.line.service) q.line.what)))) (cond b (s.box a).now q.line.tick)) no-house
+          ap (λ (b : Bool). events.asking (n.name l.key.0) l.service (n.name (number_of (s.box a).left).0) (cond b (Num (get_or (cond b (two_bytes q.line.service) q.line.what).bytes 0 0 * 256 + get_or (cond b (two_bytes q.line.service) q.line.what).bytes 1 0)) (spell (words_of (cond b (two_bytes q.line.service) q.line.what)))) (cond b (s.box a).now q.line.tick)) no-house
           ∙ (let j = drawn-is c n o _ new in
           let u = service-is in
           let v = pend.line.what in

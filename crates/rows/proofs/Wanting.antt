@@ -10,7 +10,7 @@ use Rattle.parts.specs.declared.fault.Fault.TheVariants.{OutOfRange}
 use Rattle.parts.specs.declared.word.Key.{Key as Bytes32}
 use Rattle.parts.specs.declared.word.What.{What}
 use Rattle.house_rules.specs.House.{for_house, wanted}
-use Rattle.box_rules.specs.Chest.{two_bytes_lem, what_of, tick_of}
+use Rattle.box_rules.specs.Chest.{two_bytes, what_of, tick_of}
 use Rattle.box_rules.specs.Chest as chest
 use Rattle.box_rules.specs.Line as line
 use Rattle.box_rules.specs.declared.answer.Answer.{Answer}
@@ -45,7 +45,7 @@ behind true x xs y h = Memᴰ.tail h
 behind false x xs y h = h
 
 -- an asking for the house asks for a service by its number
-pub house-what : (v : ℕ) → get_or (two_bytes_lem v).bytes 0 0 * 256 + get_or (two_bytes_lem v).bytes 1 0 ≡ v
+pub house-what : (v : ℕ) → get_or (two_bytes v).bytes 0 0 * 256 + get_or (two_bytes v).bytes 1 0 ≡ v
 house-what v = two_bytes_lem v
 
 module _ (c : Setting) (n : Naming c.own) {K : List Closing} {p : ℕ} {s : System} {ls : List Wanted} {gs : List Given} {bs : List Begun} {ds : List Deed} {xs : List Taken} (o : Tied c n K p s ls gs bs ds xs) where
@@ -238,7 +238,7 @@ module _ (c : Setting) (n : Naming c.own) {K : List Closing} {p : ℕ} {s : Syst
 
         word : asking_term n.name q.key (chest.asking_of (s.box a) q.key q.service (line.line_of (s.box a) v w)).inside ≡ events.asking_of q₀
         word =
-            ap (λ (b : Bool). events.asking (n.name q.key.0) q.service (n.name (number_of (s.box a).left).0) (cond b (Num (get_or (cond b (two_bytes_lem v) w).bytes 0 0 * 256 + get_or (cond b (two_bytes_lem v) w).bytes 1 0)) (spell (words_of (cond b (two_bytes_lem v) w)))) (cond b (s.box a).now (s.box a).now)) is-house
+            ap (λ (b : Bool). events.asking (n.name q.key.0) q.service (n.name (number_of (s.box a).left).0) (cond b (Num (get_or (cond b (two_bytes v) w).bytes 0 0 * 256 + get_or (cond b (two_bytes v) w).bytes 1 0)) (spell (words_of (cond b (two_bytes v) w)))) (cond b (s.box a).now (s.box a).now)) is-house
             ∙ (let i = key-is in
             let j = drawn-is _ new in
             let k = ok.now-is in
@@ -349,7 +349,7 @@ module _ (c : Setting) (n : Naming c.own) {K : List Closing} {p : ℕ} {s : Syst
 
         word : asking_term n.name q.key (chest.asking_of (s.box a) q.key q.service (line.line_of (s.box a) v w)).inside ≡ events.asking_of q₀
         word =
-            ap (λ (b : Bool). events.asking (n.name q.key.0) q.service (n.name (number_of (s.box a).left).0) (cond b (Num (get_or (cond b (two_bytes_lem v) w).bytes 0 0 * 256 + get_or (cond b (two_bytes_lem v) w).bytes 1 0)) (spell (words_of (cond b (two_bytes_lem v) w)))) (cond b (s.box a).now (s.box a).now)) no-house
+            ap (λ (b : Bool). events.asking (n.name q.key.0) q.service (n.name (number_of (s.box a).left).0) (cond b (Num (get_or (cond b (two_bytes v) w).bytes 0 0 * 256 + get_or (cond b (two_bytes v) w).bytes 1 0)) (spell (words_of (cond b (two_bytes v) w)))) (cond b (s.box a).now (s.box a).now)) no-house
             ∙ (let i = key-is in
             let j = drawn-is _ new in
             let k = ok.now-is in

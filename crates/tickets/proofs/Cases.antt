@@ -15,7 +15,7 @@ use Rattle.tickets.specs.Event.{Body, ticket, asking, Event, after, May, DoneBef
 use Rattle.tickets.specs.Promise.{Origin, by-reader, six}
 use Rattle.tickets.specs.Cases
 use Rattle.tickets.specs.Cases.{runs, waits, Why, NotLately, TicketOver, DoneAlready, Right, Holds, RowHolds, rules, plain, WorkedCases}
-use Rattle.tickets.specs.Cases.{login100, held100, house_ticket, ticket7, wish200, held200, logged_in, asked200, done200, closed300, asks_again, tries, stolen5, as_five, their_house_ticket, their_ticket7, other_ticket7, two_tickets, made_up_lem}
+use Rattle.tickets.specs.Cases.{login100, held100, house_ticket, ticket7, wish200, held200, logged_in, asked200, done200, closed300, asks_again, tries, stolen5, as_five, their_house_ticket, their_ticket7, other_ticket7, two_tickets, made_up}
 use Rattle.tickets.specs.Cases.{row_a, row_b201, row_b206, row_c301, row_c-open, row_c1200, row_c1201, row_d, row_e, row_f, row_f-slip, row_g}
 use Rattle.tickets.proofs.Bools.{clash, either}
 use Rattle.tickets.proofs.Main.{main}
@@ -527,12 +527,12 @@ module _ (k : ℕ → ℕ) where
   reach-7 : Reach (rules k) es7 s7
   reach-7 = Event.onward (reach-done200 k) (Event.steals 7) tt
 
-  had : (v : ℕ) → k v ≡ 7 → Gets s7.air (ticket (rules k) (made_up_lem v))
+  had : (v : ℕ) → k v ≡ 7 → Gets s7.air (ticket (rules k) (made_up v))
   had v e =
       subst (λ (x : ℕ). Gets s7.air (Lock 1 (Own x) (Pair (Num v) (Pair (Num 6) (Pair (Drawn 1) (Num 5000)))))) (sym e)
       (lock 1 (has first) (pair (num v) (pair (num 6) (pair (odd 0) (num 5000)))))
 
-  done-by : (v : ℕ) → k v ≡ 7 → (v ≡ 0 → ⊥) → May (rules k) s7 (Event.does (made_up_lem v) (Drawn 3) (Num 51) 200)
+  done-by : (v : ℕ) → k v ≡ 7 → (v ≡ 0 → ⊥) → May (rules k) s7 (Event.does (made_up v) (Drawn 3) (Num 51) 200)
   done-by v e h =
       record {
         a-service = h;
@@ -576,9 +576,9 @@ module _ where
         );
       }
     where
-      no-house : Gets F.air (ticket plain (made_up_lem 0)) → ⊥
+      no-house : Gets F.air (ticket plain (made_up 0)) → ⊥
       no-house h =
-          let m = given-but (made_up_lem 0) (λ e. omega arith) h in
+          let m = given-but (made_up 0) (λ e. omega arith) h in
           let e = m.1.same_key in
           let d : ◌≡◌ {A = ℕ} 1 (m.0.key * 2) = cc in
           omega arith

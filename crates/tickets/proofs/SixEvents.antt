@@ -9,7 +9,7 @@ use native.Mathlib.Omega.{arith}
 use Rattle.tickets.specs.Term.{Term, Num, Own, Gets, has, even}
 use Rattle.tickets.specs.State.{Rules, LoggingIn, AskingHouse, Wish, Done, State, is_in, is_closed}
 use Rattle.tickets.specs.Event
-use Rattle.tickets.specs.Event.{Body, Event, after, May, Later, DoneBefore, Wants, HearsLogin, Takes, Serves, Does, new_line_lem, new_wish, new_done}
+use Rattle.tickets.specs.Event.{Body, Event, after, May, Later, DoneBefore, Wants, HearsLogin, Takes, Serves, Does, new_line, new_wish, new_done}
 use Rattle.tickets.specs.Promise.{ServedBy, six}
 use Rattle.tickets.proofs.Bools.{clash, either, even-injective}
 use Rattle.tickets.proofs.Known.{Known}
@@ -43,10 +43,10 @@ module _ {r : Rules} {s : State} (i : Inv r s) where
 
   module _ (a v : ℕ) (w : Term) (service : v ≡ r.house → ⊥) (is_open : is_closed a s.closed ≡ false) (writable : Gets s.air w) where
     abbrev login : Wish
-    login = new_wish s (new_line_lem s a v w) LoggingIn (Own a)
+    login = new_wish s (new_line s a v w) LoggingIn (Own a)
 
     abbrev asking : Wish
-    asking = record { line = new_line_lem s a v w; stage = AskingHouse; number = s.next + 1 + 1; since = s.now; key = even (s.next + 1) }
+    asking = record { line = new_line s a v w; stage = AskingHouse; number = s.next + 1 + 1; since = s.now; key = even (s.next + 1) }
 
     abbrev house-ticket : Body
     house-ticket = record { service = r.house; who = a; key = even (s.next + 1); until = s.now + r.life }
@@ -152,7 +152,7 @@ module _ {r : Rules} {s : State} (i : Inv r s) where
         by-service = refl;
         in_words = refl;
         at_once = refl;
-        the-asking = Event.new_asked s4 (new_line_lem s a v w) v (even (s.next + 1 + 1 + 1)) w s.now (s.next + 1 + 1) s.now;
+        the-asking = Event.new_asked s4 (new_line s a v w) v (even (s.next + 1 + 1 + 1)) w s.now (s.next + 1 + 1) s.now;
         accounts =
             record {
               known = Memᴰ.head refl;

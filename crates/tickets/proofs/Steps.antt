@@ -11,7 +11,7 @@ use borrow.Author.Tests.{eqb-true, eq-eqb}
 use Rattle.tickets.specs.Term.{Term, Num, Drawn, Own, Pair, Lock, Gets, even}
 use Rattle.tickets.specs.State.{Rules, Lately, Line, Stage, LoggingIn, AskingHouse, Wish, Key, Asked, Done, Closing, State, Safe, is_in, is_closed, relies, start}
 use Rattle.tickets.specs.Event
-use Rattle.tickets.specs.Event.{Body, body_of, ticket, letter_of, asking_of, login_of, receipt, Event, after, May, Later, Reach, HearsLogin, Hears, Serves, Does, Takes, HoldsHouse, HoldsService, Wants, new_line_lem, new_wish, new_asked, new_key, new_done}
+use Rattle.tickets.specs.Event.{Body, body_of, ticket, letter_of, asking_of, login_of, receipt, Event, after, May, Later, Reach, HearsLogin, Hears, Serves, Does, Takes, HoldsHouse, HoldsService, Wants, new_line, new_wish, new_asked, new_key, new_done}
 use Rattle.tickets.specs.Promise.{Answers, AsWanted, MadeUpon, MadeFor, CameBy, Began, WantedBy, GaveKey}
 use Rattle.tickets.proofs.Bools.{Sub, Unsafe, clash, or_cases, or-false-left, or-false-right, is_in-here, is_in-more, sub_refl, sub_more}
 use Rattle.tickets.proofs.Grown.{Grown, same, more, grown-old}
@@ -140,12 +140,12 @@ module _ {r : Rules} {s : State} (i : Inv r s) where
       record {
         grows = gr;
         air =
-            said-one r s t (login_of (new_wish s (new_line_lem s a v w) LoggingIn (Own a)))
-            (Known.a-login (new_wish s (new_line_lem s a v w) LoggingIn (Own a)) _ _ (Memᴰ.head refl) refl refl refl);
+            said-one r s t (login_of (new_wish s (new_line s a v w) LoggingIn (Own a)))
+            (Known.a-login (new_wish s (new_line s a v w) LoggingIn (Own a)) _ _ (Memᴰ.head refl) refl refl refl);
         closed = λ c h. inl h;
-        lines = more (new_line_lem s a v w) (record { ok = record { low = omega arith; a-service = g.a-service; writable = known-grows gr (gets-known i g.writable) } });
+        lines = more (new_line s a v w) (record { ok = record { low = omega arith; a-service = g.a-service; writable = known-grows gr (gets-known i g.writable) } });
         wishes =
-            more (new_wish s (new_line_lem s a v w) LoggingIn (Own a))
+            more (new_wish s (new_line s a v w) LoggingIn (Own a))
             (record {
               ok =
                   record {
@@ -168,8 +168,8 @@ module _ {r : Rules} {s : State} (i : Inv r s) where
 
       gr : Grows s t
       gr =
-          grows s t (omega arith) (omega arith) (sub_refl s.stolen) (sub_refl s.taken) (more (new_line_lem s a v w) tt)
-          (more (new_wish s (new_line_lem s a v w) LoggingIn (Own a)) tt) same same same
+          grows s t (omega arith) (omega arith) (sub_refl s.stolen) (sub_refl s.taken) (more (new_line s a v w) tt)
+          (more (new_wish s (new_line s a v w) LoggingIn (Own a)) tt) same same same
 
       no-asking : LoggingIn ≡ AskingHouse → ⊥
       no-asking e = let z : ◌≡◌ {A = ℕ} 0 1 = cc in omega arith
@@ -383,13 +383,13 @@ module _ {r : Rules} {s : State} (i : Inv r s) where
       t = after r (Event.wish p v w) s
 
       l : Line
-      l = new_line_lem s p.line.reader v w
+      l = new_line s p.line.reader v w
 
       q : Asked
-      q = new_asked s (new_line_lem s p.line.reader v w) r.house p.key (Num v) s.now p.upon p.since
+      q = new_asked s (new_line s p.line.reader v w) r.house p.key (Num v) s.now p.upon p.since
 
       y : Wish
-      y = new_wish s (new_line_lem s p.line.reader v w) AskingHouse p.key
+      y = new_wish s (new_line s p.line.reader v w) AskingHouse p.key
 
       g : Grows s t
       g = grows s t (omega arith) (omega arith) (sub_refl s.stolen) (sub_refl s.taken) (more l tt) (more y tt) same (more q tt) same
@@ -441,10 +441,10 @@ module _ {r : Rules} {s : State} (i : Inv r s) where
       t = after r (Event.again p w) s
 
       l : Line
-      l = new_line_lem s p.line.reader p.service w
+      l = new_line s p.line.reader p.service w
 
       q : Asked
-      q = new_asked s (new_line_lem s p.line.reader p.service w) p.service p.key w s.now p.upon p.since
+      q = new_asked s (new_line s p.line.reader p.service w) p.service p.key w s.now p.upon p.since
 
       g : Grows s t
       g = grows s t (omega arith) (omega arith) (sub_refl s.stolen) (sub_refl s.taken) (more l tt) same same (more q tt) same
