@@ -11,7 +11,7 @@ returns c =
       after = c.judge.ensures.after;
       meant = meant _ _ _ c.judge.ensures.answer;
       asked = was-asked _ _ _ c.judge.ensures.answer;
-      lines-once = lines-once;
-      asked-once = asked-once;
-      never-unasked = never-unasked;
+      lines_once = lines-once;
+      asked_once = asked-once;
+      never_unasked = never-unasked;
     }

@@ -4,4 +4,4 @@ use Rattle.judge.proofs.Settled.{settled}
 use Rattle.judge.proofs.settles.Goals as goal
 
 pub returns : goal.returns
-returns c = record { settled = settled; meaning = meaning; none-unasked = none-unasked }
+returns c = record { settled = settled; meaning = meaning; none_unasked = none-unasked }

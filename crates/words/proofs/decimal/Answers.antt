@@ -3,9 +3,9 @@ use Rattle.std.proofs.lemmas.Bool.Decides.{nat_tests}
 use Rattle.words.specs.Text.{decimal_of}
 use Rattle.words.proofs.decimal.Goals as goal
 
-pub returns-then-is-empty : goal.returns-then-is-empty
+pub returns-then-is_empty : goal.returns-then-is_empty
 unfolding decimal_of
-returns-then-is-empty c = search rules
+returns-then-is_empty c = search rules
 
 pub returns-then-word-eq48 : goal.returns-then-word-eq48
 unfolding decimal_of

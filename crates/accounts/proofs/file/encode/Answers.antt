@@ -6,5 +6,5 @@ use Rattle.std.proofs.Common.{◌≡◌, ◌-◌, length, take, drop, ◌∙◌,
 pub returns : goal.returns
 returns c =
     let x = c.args.bytes.now in
-    let l : length c.put-accounts.new.bytes ≡ 33792 = c.put-accounts.auto.bytes ∙ length-take-le 33792 (drop 8 x) (omega (arith, length-drop 8 x, c.requires)) in
-    payload-mid x c.put-accounts.new.bytes c.requires l ∙ c.put-accounts.ensures
+    let l : length c.put_accounts.new.bytes ≡ 33792 = c.put_accounts.auto.bytes ∙ length-take-le 33792 (drop 8 x) (omega (arith, length-drop 8 x, c.requires)) in
+    payload-mid x c.put_accounts.new.bytes c.requires l ∙ c.put_accounts.ensures

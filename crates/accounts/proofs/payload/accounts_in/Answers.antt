@@ -14,7 +14,7 @@ loop-i-preserved c =
     let i = c.loop-i.i in
     let P : Account → Type 0 = λ a. (k : ℕ) → k < i + 1 → get_or (set xs i a) k Absent ≡ account_at x k in (
       length-set xs i _ ∙ c.loop-i.invariant.0,
-      subst P (sym c.account-at.ensures) (fill_by_more (account_at x) xs i Absent (omega (arith, c.loop-i.invariant.0)) c.loop-i.invariant.1),
+      subst P (sym c.account_at.ensures) (fill_by_more (account_at x) xs i Absent (omega (arith, c.loop-i.invariant.0)) c.loop-i.invariant.1),
     )
 
 pub returns : goal.returns

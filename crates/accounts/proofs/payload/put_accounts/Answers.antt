@@ -15,12 +15,12 @@ loop-i-preserved c =
     let xs = c.args.accounts.now in
     let x = c.loop-i.bytes in
     let i = c.loop-i.i in
-    let ys = c.put-account.new.bytes in
+    let ys = c.put_account.new.bytes in
     let l : 33 * i + 33 - 33 * i ≤ length (drop (33 * i) x) = omega (arith, length-drop (33 * i) x, c.loop-i.auto.bytes) in
-    let k : length ys ≡ 33 = c.put-account.auto.bytes ∙ length-take-le (33 * i + 33 - 33 * i) (drop (33 * i) x) l ∙ (omega arith) in
+    let k : length ys ≡ 33 = c.put_account.auto.bytes ∙ length-take-le (33 * i + 33 - 33 * i) (drop (33 * i) x) l ∙ (omega arith) in
     take-put_mid (33 * i) (33 * i + 33 - 33 * i) x ys (33 * (i + 1)) (omega arith) (omega (arith, c.loop-i.auto.bytes))
     ∙ ap (λ (y : List ℕ). y ++ ys) c.loop-i.invariant
-    ∙ ap (λ (y : List ℕ). payload (take i xs) ++ y) c.put-account.ensures
+    ∙ ap (λ (y : List ℕ). payload (take i xs) ++ y) c.put_account.ensures
     ∙ sym (payload-more xs i _ (omega arith))
 
 pub returns : goal.returns

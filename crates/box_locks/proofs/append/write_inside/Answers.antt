@@ -11,15 +11,15 @@ asking q words = record { service = q.service; number = q.number; what = words; 
 pub unreachable-requires : goal.unreachable-requires
 unreachable-requires c =
     roomless (asking c.args.asking.now c.words.result.now) c.args.out.now c.words.ensures.length c.requires
-    c.in-default.ensures.length
+    c.in_default.ensures.length
 
 pub returns : goal.returns
 returns c =
     let q = c.args.asking.now in
     let w =
-    written (asking q c.words.result.now) c.args.out.now c.write-asking.new.out c.in-Some.len
-    c.words.ensures.length c.requires c.in-Some.ensures.length c.write-asking.ensures.left
-    c.write-asking.auto.out in
+    written (asking q c.words.result.now) c.args.out.now c.write_asking.new.out c.in-Some.len
+    c.words.ensures.length c.requires c.in-Some.ensures.length c.write_asking.ensures.left
+    c.write_asking.auto.out in
     record {
       length = w.0;
       inside = w.1 ∙ ap (λ (l : List ℕ). write_asking (asking q l)) c.words.ensures.words;

@@ -5,9 +5,9 @@ use Rattle.parts.specs.declared.word.Salt.{Salt}
 
 pub returns : goal.returns
 returns g c =
-    let e = c.take-16.ensures.rest in
+    let e = c.take_16.ensures.rest in
     record {
-      number = ap (λ (b : List ℕ). record { 0 = b }) c.take-16.ensures.value;
-      salt = ap (λ (b : List ℕ). record { 0 = b }) (c.take-16-2.ensures.value ∙ ap (λ (b : List ℕ). take 16 b) e);
-      rest = c.take-16-2.ensures.rest ∙ ap (λ (b : List ℕ). drop 16 b) e ∙ drop-drop 16 16 (g.D.Drawn.left c.args.drawn.now);
+      number = ap (λ (b : List ℕ). record { 0 = b }) c.take_16.ensures.value;
+      salt = ap (λ (b : List ℕ). record { 0 = b }) (c.take_16-2.ensures.value ∙ ap (λ (b : List ℕ). take 16 b) e);
+      rest = c.take_16-2.ensures.rest ∙ ap (λ (b : List ℕ). drop 16 b) e ∙ drop-drop 16 16 (g.D.Drawn.left c.args.drawn.now);
     }

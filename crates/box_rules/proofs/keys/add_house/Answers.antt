@@ -13,7 +13,7 @@ loop-i-init g c =
 
 pub loop-i-preserved-in-Continue· : goal.loop-i-preserved-in-Continue·
 loop-i-preserved-in-Continue· g c =
-    (added is_house (λ h. h.pass.key) c.args.tickets.now c.loop-i.i (get_or c.args.tickets.now (c.loop-i.i - 1) c.index-tickets-i.result) (vec_items c.args.keys.now) (vec_items c.loop-i.keys) _ c.loop-i-test.true c.loop-i.invariant.1 (get_or_default c.args.tickets.now (c.loop-i.i - 1) c.index-tickets-i.result _ (omega (arith, c.loop-i.invariant.1, c.loop-i-test.true))) (eq-eqb _ _ c.if-pass-eq0.true) c.loop-i.invariant.0 c.in-ok-push.ensures.items, omega (arith, c.loop-i.invariant.1))
+    (added is_house (λ h. h.pass.key) c.args.tickets.now c.loop-i.i (get_or c.args.tickets.now (c.loop-i.i - 1) c.index-tickets-i.result) (vec_items c.args.keys.now) (vec_items c.loop-i.keys) _ c.loop-i-test.true c.loop-i.invariant.1 (get_or_default c.args.tickets.now (c.loop-i.i - 1) c.index-tickets-i.result _ (omega (arith, c.loop-i.invariant.1, c.loop-i-test.true))) (eq-eqb _ _ c.if-pass-eq0.true) c.loop-i.invariant.0 c.in_ok-push.ensures.items, omega (arith, c.loop-i.invariant.1))
 
 pub loop-i-preserved : goal.loop-i-preserved
 loop-i-preserved g c =

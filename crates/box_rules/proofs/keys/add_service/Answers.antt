@@ -13,7 +13,7 @@ loop-i-init c =
 
 pub loop-i-preserved-in-Continue· : goal.loop-i-preserved-in-Continue·
 loop-i-preserved-in-Continue· c =
-    (added is_to_service (λ p. p.key) c.args.askings.now c.loop-i.i (get_or c.args.askings.now (c.loop-i.i - 1) nobodys) (vec_items c.args.keys.now) (vec_items c.loop-i.keys) _ c.loop-i-test.true c.loop-i.invariant.1 (get_or_default c.args.askings.now (c.loop-i.i - 1) nobodys _ (omega (arith, c.loop-i.invariant.1, c.loop-i-test.true))) (ap (λ (b : Bool). not b) (ne_eqb _ _ c.if-asking-ne0.true)) c.loop-i.invariant.0 c.in-ok-push.ensures.items, omega (arith, c.loop-i.invariant.1))
+    (added is_to_service (λ p. p.key) c.args.askings.now c.loop-i.i (get_or c.args.askings.now (c.loop-i.i - 1) nobodys) (vec_items c.args.keys.now) (vec_items c.loop-i.keys) _ c.loop-i-test.true c.loop-i.invariant.1 (get_or_default c.args.askings.now (c.loop-i.i - 1) nobodys _ (omega (arith, c.loop-i.invariant.1, c.loop-i-test.true))) (ap (λ (b : Bool). not b) (ne_eqb _ _ c.if-asking-ne0.true)) c.loop-i.invariant.0 c.in_ok-push.ensures.items, omega (arith, c.loop-i.invariant.1))
 
 pub loop-i-preserved : goal.loop-i-preserved
 loop-i-preserved c =

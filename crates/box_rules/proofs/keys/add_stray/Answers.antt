@@ -13,8 +13,8 @@ loop-i-init g c =
 
 pub loop-i-preserved-in-Continue· : goal.loop-i-preserved-in-Continue·
 loop-i-preserved-in-Continue· g c =
-    (added (is_stray c.args.tickets.now) (λ p. p.key) c.args.askings.now c.loop-i.i (get_or c.args.askings.now (c.loop-i.i - 1) nobodys) (vec_items c.args.keys.now) (vec_items c.loop-i.keys) _ c.loop-i-test.true c.loop-i.invariant.1 (get_or_default c.args.askings.now (c.loop-i.i - 1) nobodys _ (omega (arith, c.loop-i.invariant.1, c.loop-i-test.true))) (sym c.is-stray.ensures ∙ c.if-is-stray.true) c.loop-i.invariant.0 c.in-ok-push.ensures.items, omega (arith, c.loop-i.invariant.1))
+    (added (is_stray c.args.tickets.now) (λ p. p.key) c.args.askings.now c.loop-i.i (get_or c.args.askings.now (c.loop-i.i - 1) nobodys) (vec_items c.args.keys.now) (vec_items c.loop-i.keys) _ c.loop-i-test.true c.loop-i.invariant.1 (get_or_default c.args.askings.now (c.loop-i.i - 1) nobodys _ (omega (arith, c.loop-i.invariant.1, c.loop-i-test.true))) (sym c.is_stray.ensures ∙ c.if-is_stray.true) c.loop-i.invariant.0 c.in_ok-push.ensures.items, omega (arith, c.loop-i.invariant.1))
 
 pub loop-i-preserved : goal.loop-i-preserved
 loop-i-preserved g c =
-    (passed_over (is_stray c.args.tickets.now) (λ p. p.key) c.args.askings.now c.loop-i.i (get_or c.args.askings.now (c.loop-i.i - 1) nobodys) (vec_items c.args.keys.now) (vec_items c.loop-i.keys) c.loop-i-test.true c.loop-i.invariant.1 (get_or_default c.args.askings.now (c.loop-i.i - 1) nobodys _ (omega (arith, c.loop-i.invariant.1, c.loop-i-test.true))) (sym c.is-stray.ensures ∙ c.if-is-stray.false) c.loop-i.invariant.0, omega (arith, c.loop-i.invariant.1))
+    (passed_over (is_stray c.args.tickets.now) (λ p. p.key) c.args.askings.now c.loop-i.i (get_or c.args.askings.now (c.loop-i.i - 1) nobodys) (vec_items c.args.keys.now) (vec_items c.loop-i.keys) c.loop-i-test.true c.loop-i.invariant.1 (get_or_default c.args.askings.now (c.loop-i.i - 1) nobodys _ (omega (arith, c.loop-i.invariant.1, c.loop-i-test.true))) (sym c.is_stray.ensures ∙ c.if-is_stray.false) c.loop-i.invariant.0, omega (arith, c.loop-i.invariant.1))

@@ -4,13 +4,13 @@ use Rattle.box_rules.specs.Keys.{holds}
 use Rattle.std.proofs.lemmas.List.{at_drop_all}
 use Rattle.std.proofs.Common.{true, false, sym, ◌∙◌}
 
-pub returns-then-is-house-key : goal.returns-then-is-house-key
-returns-then-is-house-key g c =
-    sym (holds_more c.args.key.now c.args.tickets.now c.loop-ticket.ticket-index c.ticket-item.result true c.loop-ticket-test.true c.ticket-item.is (sym c.is-house-key.ensures ∙ c.if-is-house-key.true)) ∙ c.loop-ticket.invariant
+pub returns-then-is_house_key : goal.returns-then-is_house_key
+returns-then-is_house_key g c =
+    sym (holds_more c.args.key.now c.args.tickets.now c.loop-ticket.ticket-index c.ticket-item.result true c.loop-ticket-test.true c.ticket-item.is (sym c.is_house_key.ensures ∙ c.if-is_house_key.true)) ∙ c.loop-ticket.invariant
 
 pub loop-ticket-preserved : goal.loop-ticket-preserved
 loop-ticket-preserved g c =
-    sym (holds_more c.args.key.now c.args.tickets.now c.loop-ticket.ticket-index c.ticket-item.result false c.loop-ticket-test.true c.ticket-item.is (sym c.is-house-key.ensures ∙ c.if-is-house-key.false)) ∙ c.loop-ticket.invariant
+    sym (holds_more c.args.key.now c.args.tickets.now c.loop-ticket.ticket-index c.ticket-item.result false c.loop-ticket-test.true c.ticket-item.is (sym c.is_house_key.ensures ∙ c.if-is_house_key.false)) ∙ c.loop-ticket.invariant
 
 pub returns : goal.returns
 returns g c =

@@ -8,10 +8,10 @@ pub loop-i-init : goal.loop-i-init
 loop-i-init c =
     (at_drop_all (oldest c.args.sought) c.args.table.now (length c.args.table.now) (omega arith), omega arith)
 
-pub returns-then-is-match : goal.returns-then-is-match
-returns-then-is-match c =
-    oldest-here c.args.sought c.args.table.now c.loop-i.i nobodys c.loop-i-test.true c.loop-i.invariant.1 c.loop-i.invariant.0 (sym c.is-match.ensures ∙ c.if-is-match.true)
+pub returns-then-is_match : goal.returns-then-is_match
+returns-then-is_match c =
+    oldest-here c.args.sought c.args.table.now c.loop-i.i nobodys c.loop-i-test.true c.loop-i.invariant.1 c.loop-i.invariant.0 (sym c.is_match.ensures ∙ c.if-is_match.true)
 
 pub loop-i-preserved : goal.loop-i-preserved
 loop-i-preserved c =
-    (oldest-none c.args.sought c.args.table.now c.loop-i.i nobodys c.loop-i-test.true c.loop-i.invariant.1 c.loop-i.invariant.0 (sym c.is-match.ensures ∙ c.if-is-match.false), omega (arith, c.loop-i.invariant.1))
+    (oldest-none c.args.sought c.args.table.now c.loop-i.i nobodys c.loop-i-test.true c.loop-i.invariant.1 c.loop-i.invariant.0 (sym c.is_match.ensures ∙ c.if-is_match.false), omega (arith, c.loop-i.invariant.1))

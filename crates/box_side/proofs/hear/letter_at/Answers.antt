@@ -11,9 +11,9 @@ use Rattle.parts.specs.declared.word.Key.{Key}
 
 pub returns : goal.returns
 returns c =
-    made_more c.open-letter.result _ _
+    made_more c.open_letter.result _ _
     (λ x e (bs : List ℕ).
     e
     ∙ ap (λ (ks : List Key). letter_in (opens_first ours 2 0 ks c.args.lock.now))
-    (c.as-slice.ensures.value ∙ c.in-ok-keys.ensures bs ∙ sym (letter_keys-by bytes_of (boxed c.args.chest.now bs))))
-    c.open-letter.ensures
+    (c.as_slice.ensures.value ∙ c.in_ok-keys.ensures bs ∙ sym (letter_keys-by bytes_of (boxed c.args.chest.now bs))))
+    c.open_letter.ensures

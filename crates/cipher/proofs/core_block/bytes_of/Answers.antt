@@ -11,7 +11,7 @@ pub loop-i-preserved : goal.loop-i-preserved
 loop-i-preserved c =
     serialized-more c.loop-i.i _ c.loop-i.bytes _ c.args.s.now c.args.w.now
     (omega arith) c.loop-i.invariant.0 (omega arith)
-    (c.copy-from-slice.ensures.after ∙ c.to-le-bytes.ensures) c.loop-i.invariant.1
+    (c.copy_from_slice.ensures.after ∙ c.to_le_bytes.ensures) c.loop-i.invariant.1
 
 pub returns : goal.returns
 returns c =

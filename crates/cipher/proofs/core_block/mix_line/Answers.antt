@@ -7,4 +7,4 @@ pub returns : goal.returns
 unfolding line
 returns c =
     ap (set (plus c.args.x c.args.y c.args.s.now) c.args.z)
-    (c.rotate-left.ensures ∙ rotl-is c.args.n _ (omega arith) (omega arith))
+    (c.rotate_left.ensures ∙ rotl-is c.args.n _ (omega arith) (omega arith))

@@ -26,18 +26,18 @@ loop-i-preserved c =
     let i = c.loop-i.i in
     let p = c.args.bytes.now in
     let inv = c.loop-i.invariant in
-    let d = c.digest-at.result in
-    let t = c.tick-at.result in
+    let d = c.digest_at.result in
+    let t = c.tick_at.result in
     let l : length (vec_items ds) ≡ length (vec_items ts) = omega (arith, ds.ok.0, ts.ok.0, inv.1, inv.2) in (
-      ap (λ (x : List ℕ). beside x (vec_items c.push-reserved-in-loop-i.new.self)) c.push-reserved.ensures.items
-          ∙ ap (λ (x : List ℕ). beside (vec_items ds ++ d ∷ []) x) c.push-reserved-in-loop-i.ensures.items
+      ap (λ (x : List ℕ). beside x (vec_items c.push_reserved-in-loop-i.new.self)) c.push_reserved.ensures.items
+          ∙ ap (λ (x : List ℕ). beside (vec_items ds ++ d ∷ []) x) c.push_reserved-in-loop-i.ensures.items
           ∙ beside-push (vec_items ds) (vec_items ts) d t l
           ∙ ap (λ (es : List Entry). es ++ entry d t ∷ []) inv.0
-          ∙ ap (λ (x : ℕ). entries_of i p ++ entry x t ∷ []) c.digest-at.ensures
-          ∙ ap (λ (x : ℕ). entries_of i p ++ entry (number (part (2 + 24 * i) 16 p)) x ∷ []) c.tick-at.ensures
+          ∙ ap (λ (x : ℕ). entries_of i p ++ entry x t ∷ []) c.digest_at.ensures
+          ∙ ap (λ (x : ℕ). entries_of i p ++ entry (number (part (2 + 24 * i) 16 p)) x ∷ []) c.tick_at.ensures
           ∙ sym (entries_of-more i p),
-      omega (arith, c.push-reserved.ensures.len, inv.1),
-      omega (arith, c.push-reserved-in-loop-i.ensures.len, inv.2),
-      omega (arith, c.push-reserved.ensures.capacity, inv.3),
-      omega (arith, c.push-reserved-in-loop-i.ensures.capacity, inv.4),
+      omega (arith, c.push_reserved.ensures.len, inv.1),
+      omega (arith, c.push_reserved-in-loop-i.ensures.len, inv.2),
+      omega (arith, c.push_reserved.ensures.capacity, inv.3),
+      omega (arith, c.push_reserved-in-loop-i.ensures.capacity, inv.4),
     )

@@ -5,5 +5,5 @@ use Rattle.std.proofs.Common.{◌≡◌, ℕ, ◌+◌, List, ◌++◌, length, t
 pub returns : goal.returns
 unfolding count_bytes
 returns c =
-    let n : length c.count-bytes.result ≡ 2 = ap length c.count-bytes.ensures in
-    ap (λ (k : ℕ). take (c.args.at + k) c.put.new.out) (sym n) ∙ c.put.ensures ∙ ap (λ (x : List ℕ). take c.args.at c.args.out.now ++ x) c.count-bytes.ensures
+    let n : length c.count_bytes.result ≡ 2 = ap length c.count_bytes.ensures in
+    ap (λ (k : ℕ). take (c.args.at + k) c.put.new.out) (sym n) ∙ c.put.ensures ∙ ap (λ (x : List ℕ). take c.args.at c.args.out.now ++ x) c.count_bytes.ensures

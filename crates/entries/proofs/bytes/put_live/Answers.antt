@@ -8,26 +8,26 @@ use Rattle.parts.specs.declared.account.Entry.{Entry}
 use Rattle.std.specs.List.{flat_map}
 use Rattle.std.proofs.Common.{◌+◌, ◌*◌, List, ◌++◌, length, take, sym, ap, ◌∙◌, arith, rules}
 
-pub put-entry-requires : goal.put-entry-requires
-put-entry-requires c =
-    let enough = room-one c.args.tick c.args.lag c.loop-i.i c.loop-i.at c.args.from (length c.args.out.now) c.args.digests.now c.args.ticks.now c.requires.0 (omega arith) (sym c.is-live.ensures ∙ c.if-is-live.true) c.loop-i.invariant.0 c.requires.1 in
+pub put_entry-requires : goal.put_entry-requires
+put_entry-requires c =
+    let enough = room-one c.args.tick c.args.lag c.loop-i.i c.loop-i.at c.args.from (length c.args.out.now) c.args.digests.now c.args.ticks.now c.requires.0 (omega arith) (sym c.is_live.ensures ∙ c.if-is_live.true) c.loop-i.invariant.0 c.requires.1 in
     omega (arith, enough, c.loop-i.auto.out)
 
 pub overflow-add-at : goal.overflow-add-at
 overflow-add-at c =
-    let enough = room-one c.args.tick c.args.lag c.loop-i.i c.loop-i.at c.args.from (length c.args.out.now) c.args.digests.now c.args.ticks.now c.requires.0 (omega arith) (sym c.is-live.ensures ∙ c.if-is-live.true) c.loop-i.invariant.0 c.requires.1 in
+    let enough = room-one c.args.tick c.args.lag c.loop-i.i c.loop-i.at c.args.from (length c.args.out.now) c.args.digests.now c.args.ticks.now c.requires.0 (omega arith) (sym c.is_live.ensures ∙ c.if-is_live.true) c.loop-i.invariant.0 c.requires.1 in
     search rules
 
 pub loop-i-preserved : goal.loop-i-preserved
 loop-i-preserved c =
     let ds = c.args.digests.now in
     let ts = c.args.ticks.now in
-    let h = sym c.is-live.ensures in
+    let h = sym c.is_live.ensures in
     let i = c.loop-i.invariant in
-    elim c.if-is-live.branch [
-      | then-is-live w ↦ simp (w.at-is, w.out-is) (write-one c.args.tick c.args.lag c.loop-i.i c.loop-i.at c.args.from ds ts (take c.args.from c.args.out.now) c.loop-i.out w.put-entry.new.out c.requires.0 (omega arith) (h ∙ w.if-is-live.true) i.0 i.1 w.put-entry.ensures)
+    elim c.if-is_live.branch [
+      | then-is-live w ↦ simp (w.at-is, w.out-is) (write-one c.args.tick c.args.lag c.loop-i.i c.loop-i.at c.args.from ds ts (take c.args.from c.args.out.now) c.loop-i.out w.put_entry.new.out c.requires.0 (omega arith) (h ∙ w.if-is_live.true) i.0 i.1 w.put_entry.ensures)
       | else-is-live w ↦
-          let same = first-no c.args.tick c.args.lag c.loop-i.i ds ts c.requires.0 (omega arith) (h ∙ w.if-is-live.false) in
+          let same = first-no c.args.tick c.args.lag c.loop-i.i ds ts c.requires.0 (omega arith) (h ∙ w.if-is_live.false) in
           simp (w.at-is, w.out-is) (i.0 ∙ ap (λ (x : List Entry). c.args.from + 24 * length x) (sym same), i.1 ∙ ap (λ (x : List Entry). take c.args.from c.args.out.now ++ flat_map entry_bytes x) (sym same))
     ]
 

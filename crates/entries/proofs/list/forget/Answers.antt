@@ -9,10 +9,10 @@ use Rattle.std.proofs.Common.{◌≡◌, sym, ap, ◌∙◌, arith}
 pub loop-i-preserved : goal.loop-i-preserved
 loop-i-preserved c =
     let i = c.loop-i.invariant in
-    let h = sym c.is-live.ensures in
-    elim c.if-is-live.branch [
-      | then-is-live w ↦ simp (w.digests-is, w.ticks-is, w.k-is) (keep_one c.loop-i.digests c.loop-i.ticks c.loop-i.k c.loop-i.i i.1 i.0 (omega arith) (h ∙ w.if-is-live.true), length-set c.loop-i.digests _ _ ∙ i.1 ∙ sym (length-set c.loop-i.ticks _ _))
-      | else-is-live w ↦ simp (w.digests-is, w.ticks-is, w.k-is) (leave-one c.loop-i.digests c.loop-i.ticks c.loop-i.k c.loop-i.i i.1 i.0 (omega arith) (h ∙ w.if-is-live.false), i.1)
+    let h = sym c.is_live.ensures in
+    elim c.if-is_live.branch [
+      | then-is-live w ↦ simp (w.digests-is, w.ticks-is, w.k-is) (keep_one c.loop-i.digests c.loop-i.ticks c.loop-i.k c.loop-i.i i.1 i.0 (omega arith) (h ∙ w.if-is_live.true), length-set c.loop-i.digests _ _ ∙ i.1 ∙ sym (length-set c.loop-i.ticks _ _))
+      | else-is-live w ↦ simp (w.digests-is, w.ticks-is, w.k-is) (leave-one c.loop-i.digests c.loop-i.ticks c.loop-i.k c.loop-i.i i.1 i.0 (omega arith) (h ∙ w.if-is_live.false), i.1)
     ]
 
 pub returns : goal.returns

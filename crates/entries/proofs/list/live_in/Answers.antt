@@ -18,10 +18,10 @@ loop-i-preserved c =
     let yes' = length-live-yes c.args.tick c.args.lag (beside ds ts) c.loop-i.i (omega arith) in
     let no' = length-live-no c.args.tick c.args.lag (beside ds ts) c.loop-i.i (omega arith) in
     let i = c.loop-i.invariant in
-    let h = ap (live c.args.tick c.args.lag) x ∙ sym c.is-live.ensures in
-    elim c.if-is-live.branch [
-      | then-is-live w ↦ (omega (arith, i, w.live-is, yes' (h ∙ w.if-is-live.true)), omega (arith, i, w.live-is))
-      | else-is-live w ↦ (omega (arith, i, w.live-is, no' (h ∙ w.if-is-live.false)), omega (arith, i, w.live-is))
+    let h = ap (live c.args.tick c.args.lag) x ∙ sym c.is_live.ensures in
+    elim c.if-is_live.branch [
+      | then-is-live w ↦ (omega (arith, i, w.live-is, yes' (h ∙ w.if-is_live.true)), omega (arith, i, w.live-is))
+      | else-is-live w ↦ (omega (arith, i, w.live-is, no' (h ∙ w.if-is_live.false)), omega (arith, i, w.live-is))
     ]
 
 pub returns : goal.returns

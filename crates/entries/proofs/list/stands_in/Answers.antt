@@ -14,7 +14,7 @@ look-preserved c =
     let l = length-beside ds ts c.requires in
     let e = stands-live-more c.args.digest c.args.tick c.args.lag (beside ds ts) c.look.i (omega arith) in
     let x : is c.args.digest c.args.tick c.args.lag (get_or (beside ds ts) c.look.i (entry 0 0)) ≡ false =
-    ap (is c.args.digest c.args.tick c.args.lag) (get_d_beside ds ts c.look.i c.requires) ∙ sym c.is-it.ensures ∙ c.if-is-it.false in
+    ap (is c.args.digest c.args.tick c.args.lag) (get_d_beside ds ts c.look.i c.requires) ∙ sym c.is_it.ensures ∙ c.if-is_it.false in
     let i = c.look.invariant.0 in
     let f = c.look.invariant.1 in
     search rules
@@ -29,13 +29,13 @@ returns-after-look c =
     let f = c.look.invariant.1 in
     search rules
 
-pub returns-then-is-it : goal.returns-then-is-it
-returns-then-is-it c =
+pub returns-then-is_it : goal.returns-then-is_it
+returns-then-is_it c =
     let ds = c.args.digests.now in
     let ts = c.args.ticks.now in
     let l = length-beside ds ts c.requires in
     let e = stands-live-more c.args.digest c.args.tick c.args.lag (beside ds ts) c.look.i (omega arith) in
     let x : is c.args.digest c.args.tick c.args.lag (get_or (beside ds ts) c.look.i (entry 0 0)) ≡ true =
-    ap (is c.args.digest c.args.tick c.args.lag) (get_d_beside ds ts c.look.i c.requires) ∙ sym c.is-it.ensures ∙ c.if-is-it.true in
+    ap (is c.args.digest c.args.tick c.args.lag) (get_d_beside ds ts c.look.i c.requires) ∙ sym c.is_it.ensures ∙ c.if-is_it.true in
     let i = c.look.invariant.0 in
     search rules

@@ -8,6 +8,6 @@ pub returns : goal.returns
 returns g c =
     let x = c.args.block.now in
     let m = g.F.Format.measured c.args.format.now in
-    c.with-len.ensures
+    c.with_len.ensures
     ∙ ap (λ (o : Option ℕ). sized o x) (c.measure.ensures ∙ ap m (take_rest x 8))
-    ∙ sym (ap (λ (b : Bool). cond b None (sized (m (drop 8 x)) x)) (sym c.is-blank.ensures ∙ c.if-is-blank.false))
+    ∙ sym (ap (λ (b : Bool). cond b None (sized (m (drop 8 x)) x)) (sym c.is_blank.ensures ∙ c.if-is_blank.false))

@@ -5,6 +5,6 @@ use Rattle.std.proofs.Common.{◌≡◌, ℕ, ◌-◌, List, length, take, ap, �
 
 pub returns : goal.returns
 returns c =
-    c.put-sum.ensures
-    ∙ ap (λ (x : List ℕ). summed (take (length x - 16) x)) c.put-turn.ensures
+    c.put_sum.ensures
+    ∙ ap (λ (x : List ℕ). summed (take (length x - 16) x)) c.put_turn.ensures
     ∙ ap summed (without-sum (stamp c.args.turn) c.args.bytes.now (length-stamp c.args.turn) c.requires)

@@ -3,4 +3,4 @@ use Rattle.std.proofs.Common.{[], take, ap, ◌∙◌}
 
 pub returns : goal.returns
 returns c =
-    c.copy-from-slice.ensures.after ∙ ap (take 16) (c.finish.ensures c.args.bytes.now (c.update.ensures [] c.new-hasher.ensures))
+    c.copy_from_slice.ensures.after ∙ ap (take 16) (c.finish.ensures c.args.bytes.now (c.update.ensures [] c.new-hasher.ensures))

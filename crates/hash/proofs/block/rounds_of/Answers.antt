@@ -9,7 +9,7 @@ loop-i-init c = sym (rounds-none c.args.w.now c.args.state.now)
 pub loop-i-preserved : goal.loop-i-preserved
 loop-i-preserved c =
     let on : 8 * c.loop-i.i + 8 ≡ 8 * (c.loop-i.i + 1) = omega arith in
-    c.eight-rounds-next.ensures c.args.state.now c.loop-i.invariant
+    c.eight_rounds-next.ensures c.args.state.now c.loop-i.invariant
     ∙ ap (λ n. rounds n c.args.w.now c.args.state.now) on
 
 pub returns : goal.returns

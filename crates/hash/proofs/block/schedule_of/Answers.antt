@@ -5,7 +5,7 @@ use Rattle.hash.proofs.block.schedule_of.Goals as goal
 
 pub loop-t-init : goal.loop-t-init
 unfolding extended
-loop-t-init c = (search rules, c.words-of-w.ensures)
+loop-t-init c = (search rules, c.words_of-w.ensures)
 
 pub loop-t-preserved : goal.loop-t-preserved
 loop-t-preserved c =

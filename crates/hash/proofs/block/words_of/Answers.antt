@@ -11,8 +11,8 @@ loop-i-init c = (refl, refl)
 pub loop-i-preserved : goal.loop-i-preserved
 loop-i-preserved c = (
   simp length-set c.loop-i.invariant.0,
-  words_more c.loop-i.i c.loop-i.w c.args.block.now c.from-be-bytes.result
-      (omega arith) c.loop-i.invariant.1 c.from-be-bytes.ensures,
+  words_more c.loop-i.i c.loop-i.w c.args.block.now c.from_be_bytes.result
+      (omega arith) c.loop-i.invariant.1 c.from_be_bytes.ensures,
 )
 
 pub returns : goal.returns

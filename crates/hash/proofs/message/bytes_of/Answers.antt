@@ -10,7 +10,7 @@ loop-i-init c = (refl, refl)
 pub loop-i-preserved : goal.loop-i-preserved
 loop-i-preserved c =
     spread-more c.loop-i.i _ c.loop-i.bytes _ c.args.words.now (omega arith) c.loop-i.invariant.0 (omega arith)
-    (c.copy-from-slice.ensures.after ∙ c.to-be-bytes.ensures) c.loop-i.invariant.1
+    (c.copy_from_slice.ensures.after ∙ c.to_be_bytes.ensures) c.loop-i.invariant.1
 
 pub returns : goal.returns
 returns c = spread-all c.loop-i.i c.loop-i.bytes c.args.words.now (omega arith) c.loop-i.invariant.0 c.loop-i.invariant.1

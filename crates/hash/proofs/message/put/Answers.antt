@@ -7,5 +7,5 @@ pub returns : goal.returns
 returns c =
     let bs = c.args.bytes.now in
     put_mid-paste c.args.at _ c.args.buffer.now _ bs (length bs)
-    c.copy-from-slice.ensures.after (omega arith) refl
+    c.copy_from_slice.ensures.after (omega arith) refl
     ∙ paste_all c.args.buffer.now c.args.at bs _ refl

@@ -4,20 +4,20 @@ use Rattle.judge_rules.specs.Judge.{act_of, oldest, plain}
 use Rattle.std.proofs.lemmas.List.{at_drop_all}
 use Rattle.std.proofs.Common.{map, rules}
 
-pub returns-then-is-fit : goal.returns-then-is-fit
-returns-then-is-fit c =
+pub returns-then-is_fit : goal.returns-then-is_fit
+returns-then-is_fit c =
     let e = oldest-more c.args.lag (act_of c.args.done.now) c.loop-i.i c.args.lines.now c.loop-i.i c.loop-i-test.true in
     let i = c.loop-i.invariant in
-    let h = c.is-fit.ensures in
-    let k = c.if-is-fit.true in
+    let h = c.is_fit.ensures in
+    let k = c.if-is_fit.true in
     search rules
 
 pub loop-i-preserved : goal.loop-i-preserved
 loop-i-preserved c =
     let e = oldest-more c.args.lag (act_of c.args.done.now) c.loop-i.i c.args.lines.now c.loop-i.i c.loop-i-test.true in
     let i = c.loop-i.invariant in
-    let h = c.is-fit.ensures in
-    let k = c.if-is-fit.false in
+    let h = c.is_fit.ensures in
+    let k = c.if-is_fit.false in
     search rules
 
 pub returns : goal.returns

@@ -6,4 +6,4 @@ use Rattle.parts.specs.declared.word.What.{What}
 pub returns : goal.returns
 returns c =
     let words = c.args.words.now in
-    ap (λ (bs : List ℕ). let w : What = record { len = length words; bytes = bs } in w) (zeros-behind words c.fill-front.new.out c.fill-front.ensures)
+    ap (λ (bs : List ℕ). let w : What = record { len = length words; bytes = bs } in w) (zeros-behind words c.fill_front.new.out c.fill_front.ensures)

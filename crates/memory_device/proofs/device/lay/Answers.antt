@@ -6,7 +6,7 @@ use Rattle.std.proofs.Common.{◌≡◌, length, drop, ap, ◌∙◌, arith}
 pub returns : goal.returns
 returns c =
     let v = c.args.block.now in
-    let ys = c.lay-front.new.block in
-    take_at ys (drop (length ys) v.items) v.len (omega (arith, c.as-mut-slice.ensures.len, c.lay-front.auto.block))
-    ∙ c.lay-front.ensures
-    ∙ ap (over c.args.bytes.now) c.as-mut-slice.ensures.value
+    let ys = c.lay_front.new.block in
+    take_at ys (drop (length ys) v.items) v.len (omega (arith, c.as_mut_slice.ensures.len, c.lay_front.auto.block))
+    ∙ c.lay_front.ensures
+    ∙ ap (over c.args.bytes.now) c.as_mut_slice.ensures.value

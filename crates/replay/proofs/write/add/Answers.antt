@@ -4,8 +4,8 @@ use Rattle.parts.specs.declared.account.Entry.{Entry}
 use Rattle.replay.proofs.write.add.Goals as goal
 use Rattle.std.proofs.Common.{◌≡◌, ℕ, ◌<◌, List, [], ◌∷◌, ◌++◌, length, vec_items, vec_len, ap, ◌∙◌, arith}
 
-pub push-reserved-requires : goal.push-reserved-requires
-push-reserved-requires c =
+pub push_reserved-requires : goal.push_reserved-requires
+push_reserved-requires c =
     let ds = c.prune.new.digests in
     let ts = c.prune.new.ticks in
     let l : length (vec_items ds) ≡ length (vec_items ts) = omega (arith, ds.ok.0, ts.ok.0, c.prune.ensures.len) in
@@ -13,8 +13,8 @@ push-reserved-requires c =
     let few = ap length c.prune.ensures.entries in
     omega (arith, few, m, c.requires.1.0, c.requires.1.1.0, c.prune.ensures.first, ds.ok.0, ts.ok.0)
 
-pub push-reserved-requires-2 : goal.push-reserved-requires-2
-push-reserved-requires-2 c =
+pub push_reserved-requires-2 : goal.push_reserved-requires-2
+push_reserved-requires-2 c =
     let ds = c.prune.new.digests in
     let ts = c.prune.new.ticks in
     let l : length (vec_items ds) ≡ length (vec_items ts) = omega (arith, ds.ok.0, ts.ok.0, c.prune.ensures.len) in
@@ -31,11 +31,11 @@ returns c =
     let l : length (vec_items ds) ≡ length (vec_items ts) = omega (arith, ds.ok.0, ts.ok.0, c.prune.ensures.len) in
     record {
       entries =
-          ap (λ (x : List ℕ). beside x (vec_items c.push-reserved-2.new.self)) c.push-reserved.ensures.items
-          ∙ ap (λ (x : List ℕ). beside (vec_items ds ++ d ∷ []) x) c.push-reserved-2.ensures.items
+          ap (λ (x : List ℕ). beside x (vec_items c.push_reserved-2.new.self)) c.push_reserved.ensures.items
+          ∙ ap (λ (x : List ℕ). beside (vec_items ds ++ d ∷ []) x) c.push_reserved-2.ensures.items
           ∙ beside-push (vec_items ds) (vec_items ts) d t l
           ∙ ap (λ (es : List Entry). es ++ entry d t ∷ []) c.prune.ensures.entries;
-      len = omega (arith, c.push-reserved.ensures.len, c.push-reserved-2.ensures.len, c.prune.ensures.len);
-      first = omega (arith, c.push-reserved.ensures.capacity, c.prune.ensures.first, c.requires.1.1.0);
-      second = omega (arith, c.push-reserved-2.ensures.capacity, c.prune.ensures.second, c.requires.1.1.1);
+      len = omega (arith, c.push_reserved.ensures.len, c.push_reserved-2.ensures.len, c.prune.ensures.len);
+      first = omega (arith, c.push_reserved.ensures.capacity, c.prune.ensures.first, c.requires.1.1.0);
+      second = omega (arith, c.push_reserved-2.ensures.capacity, c.prune.ensures.second, c.requires.1.1.1);
     }

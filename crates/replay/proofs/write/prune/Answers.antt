@@ -16,8 +16,8 @@ returns c =
     let ds = c.forget-k.new.digests in
     let ts = c.forget-k.new.ticks in
     let b = c.forget-k.ensures.bound in
-    let p = c.as-mut-slice.ensures.len in
-    let q = c.as-mut-slice-2.ensures.len in
+    let p = c.as_mut_slice.ensures.len in
+    let q = c.as_mut_slice-2.ensures.len in
     let r = c.forget-k.auto.digests in
     let s = c.forget-k.auto.ticks in
     let kt : k ≤ dv.len = omega (arith, c.requires) in
@@ -27,8 +27,8 @@ returns c =
           ap (λ (x : List ℕ). beside x (vec_items c.truncate-2.new.self)) (c.truncate.ensures.items ∙ front_of k dv.len ds (drop (length ds) dv.items) kt kd)
           ∙ ap (λ (x : List ℕ). beside (take k ds) x) (c.truncate-2.ensures.items ∙ front_of k tv.len ts (drop (length ts) tv.items) (omega (arith, c.requires)) b)
           ∙ c.forget-k.ensures.front
-          ∙ ap (λ (x : List ℕ). live_of c.args.tick c.args.lag (beside x c.as-mut-slice-2.result.now)) c.as-mut-slice.ensures.value
-          ∙ ap (λ (x : List ℕ). live_of c.args.tick c.args.lag (beside (vec_items dv) x)) c.as-mut-slice-2.ensures.value;
+          ∙ ap (λ (x : List ℕ). live_of c.args.tick c.args.lag (beside x c.as_mut_slice-2.result.now)) c.as_mut_slice.ensures.value
+          ∙ ap (λ (x : List ℕ). live_of c.args.tick c.args.lag (beside (vec_items dv) x)) c.as_mut_slice-2.ensures.value;
       len = omega (arith, c.truncate.ensures.len, c.truncate-2.ensures.len, c.requires, kt);
       first = c.truncate.ensures.capacity;
       second = c.truncate-2.ensures.capacity;

@@ -6,5 +6,5 @@ pub returns : goal.returns
 unfolding digest number
 returns c =
     let all = c.finish.ensures _ (c.update-2.ensures _ (c.update.ensures [] c.new-hasher.ensures)) in
-    let is : c.from-be-bytes.result ≡ number 16 c.finish.result = omega (arith, c.from-be-bytes.ensures) in
+    let is : c.from_be_bytes.result ≡ number 16 c.finish.result = omega (arith, c.from_be_bytes.ensures) in
     is ∙ ap (number 16) all

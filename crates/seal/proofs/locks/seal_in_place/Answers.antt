@@ -18,15 +18,15 @@ returns c =
     let w = c.args.word.now in
     let k = number_of c.args.kind in
     let key = c.args.key.now in
-    let v = c.turn-inside.new.word in
+    let v = c.turn_inside.new.word in
     let le = c.if-word-lt-AROUND.false in
-    let turned = c.turn-inside.ensures key c.new-mac.ensures in
+    let turned = c.turn_inside.ensures key c.new-mac.ensures in
     let n : length v ≡ length w = ap length turned ∙ length-turned_in k key w le in
     let none : length v - 16 - 0 ≡ length v - 16 = omega arith in
     record {
       word =
-          sealed-put k key w le v c.copy-from-slice.new.self (length v - 16) (length v - (length v - 16))
+          sealed-put k key w le v c.copy_from_slice.new.self (length v - 16) (length v - (length v - 16))
           turned (omega arith) (omega arith)
-          (c.copy-from-slice.ensures.after ∙ c.sum-of-sum.ensures key c.new-mac.ensures ∙ ap (λ j. sum k key (take j v)) none);
+          (c.copy_from_slice.ensures.after ∙ c.sum_of-sum.ensures key c.new-mac.ensures ∙ ap (λ j. sum k key (take j v)) none);
       test = ap not (sym (le-ltb (length w) 32 le));
     }

@@ -8,7 +8,7 @@ pub returns : goal.returns
 returns c =
     let was = vec_items c.args.out.now in
     let lock = c.args.lock.now in
-    let two : c.to-be-bytes.result ≡ bytes_of 2 (length lock) = search rules in
-    let a = pushed c.to-be-bytes.result refl c.in-ok-extend-from-slice.was c.extend-from-slice.ensures.items in
-    let b = pushed lock a c.in-ok-extend-from-slice-2.was c.extend-from-slice-2.ensures.items in
+    let two : c.to_be_bytes.result ≡ bytes_of 2 (length lock) = search rules in
+    let a = pushed c.to_be_bytes.result refl c.in_ok-extend_from_slice.was c.extend_from_slice.ensures.items in
+    let b = pushed lock a c.in_ok-extend_from_slice-2.was c.extend_from_slice-2.ensures.items in
     b ∙ ap (λ ys. (was ++ ys) ++ lock) two ∙ append_assoc was (bytes_of 2 (length lock)) lock

@@ -25,7 +25,7 @@ returns-in-Some g c =
       known = h;
       left = c.start-halves.new.bytes;
       starts = made b h b' c.start-halves.new.bytes c.start-halves.ensures;
-      holds = ap (λ (o : Option (List Account)). holding o h b') (sym c.in-Some.is ∙ c.accounts-of.ensures);
+      holds = ap (λ (o : Option (List Account)). holding o h b') (sym c.in-Some.is ∙ c.accounts_of.ensures);
     }
 
 pub returns-in-None : goal.returns-in-None
@@ -37,5 +37,5 @@ returns-in-None g c =
       known = h;
       left = c.start-halves.new.bytes;
       starts = made b h b' c.start-halves.new.bytes c.start-halves.ensures;
-      holds = ap (λ (o : Option (List Account)). holding o h b') (sym c.in-None.is ∙ c.accounts-of.ensures);
+      holds = ap (λ (o : Option (List Account)). holding o h b') (sym c.in-None.is ∙ c.accounts_of.ensures);
     }

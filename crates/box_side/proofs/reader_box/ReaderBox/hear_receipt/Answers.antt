@@ -13,8 +13,8 @@ returns-in-Ok-Err g c =
     let o = opens_first ours 5 0 (receipt_keys b.askings) c.args.lock.now in
     let k = c.in-Ok-Err.ensures in
     let e : receipt_in o ≡ Err c.in-Ok-Err.fault = cc in
-    deals-wrong b (receipt_read o) c.in-Ok-Err.fault c.tell-only.result
-    (receipt-wrong o c.in-Ok-Err.fault e) c.tell-only.ensures.shown c.tell-only.ensures.sent
+    deals-wrong b (receipt_read o) c.in-Ok-Err.fault c.tell_only.result
+    (receipt-wrong o c.in-Ok-Err.fault e) c.tell_only.ensures.shown c.tell_only.ensures.sent
 
 pub returns-in-Ok-Ok : goal.returns-in-Ok-Ok
 returns-in-Ok-Ok g c =
@@ -23,6 +23,6 @@ returns-in-Ok-Ok g c =
     let y = c.in-Ok-Ok.opened in
     let k = c.in-Ok-Ok.ensures in
     let e : receipt_in o ≡ Ok y = cc in
-    deals-confirms b (receipt_read o) y.key y.receipt c.take-receipt.result c.tell-only-told.result
-    (receipt-confirms o y e) c.take-receipt.ensures c.tell-only-told.ensures.shown
-    c.tell-only-told.ensures.sent
+    deals-confirms b (receipt_read o) y.key y.receipt c.take_receipt.result c.tell_only-told.result
+    (receipt-confirms o y e) c.take_receipt.ensures c.tell_only-told.ensures.shown
+    c.tell_only-told.ensures.sent

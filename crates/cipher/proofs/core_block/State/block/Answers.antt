@@ -4,4 +4,4 @@ use Rattle.cipher.proofs.core_block.State.block.Goals as goal
 
 pub returns : goal.returns
 unfolding block
-returns c = c.bytes-of.ensures ∙ ap (serialized 16 c.args.self.now.words) c.worked.ensures
+returns c = c.bytes_of.ensures ∙ ap (serialized 16 c.args.self.now.words) c.worked.ensures

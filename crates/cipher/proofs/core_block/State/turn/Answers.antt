@@ -10,10 +10,10 @@ loop-n-init c = (sym (later-none c.args.self.now.words), refl)
 
 pub loop-n-preserved : goal.loop-n-preserved
 loop-n-preserved c = (
-  c.turn-block.ensures.state ∙ later_more c.loop-n.n c.args.self.now.words c.loop-n.self.words c.loop-n.invariant.0,
-  turned_more c.loop-n.n _ c.args.self.now.words c.args.bytes.now c.loop-n.bytes c.turn-block.new.bytes
+  c.turn_block.ensures.state ∙ later_more c.loop-n.n c.args.self.now.words c.loop-n.self.words c.loop-n.invariant.0,
+  turned_more c.loop-n.n _ c.args.self.now.words c.args.bytes.now c.loop-n.bytes c.turn_block.new.bytes
       (block c.loop-n.self.words) c.loop-n.invariant.1 (omega arith) (omega arith)
-      (ap block c.loop-n.invariant.0) c.turn-block.ensures.bytes,
+      (ap block c.loop-n.invariant.0) c.turn_block.ensures.bytes,
 )
 
 pub returns-else-bytes-gt0 : goal.returns-else-bytes-gt0
@@ -37,9 +37,9 @@ returns-then-bytes-gt0 c =
     record {
       bytes =
           turned-all (n + 1) s xs _ e
-          (turned_more n (length c.loop-n.bytes - 64 * n) s xs c.loop-n.bytes c.turn-block-then-bytes-gt0.new.bytes
+          (turned_more n (length c.loop-n.bytes - 64 * n) s xs c.loop-n.bytes c.turn_block-then-bytes-gt0.new.bytes
           (block c.loop-n.self.words) so_far (omega arith) (omega arith) (ap block words)
-          c.turn-block-then-bytes-gt0.ensures.bytes);
+          c.turn_block-then-bytes-gt0.ensures.bytes);
       state =
-          c.turn-block-then-bytes-gt0.ensures.state ∙ later_more n s c.loop-n.self.words words ∙ ap (λ k. later k s) e;
+          c.turn_block-then-bytes-gt0.ensures.state ∙ later_more n s c.loop-n.self.words words ∙ ap (λ k. later k s) e;
     }

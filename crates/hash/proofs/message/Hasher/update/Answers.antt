@@ -11,5 +11,5 @@ pub returns : goal.returns
 returns c m h =
     holds-long c.args.self.now m c.args.bytes.now _ _ c.put-2.new.buffer c.compress.new.state
     c.absorb.new.state _ c.put-3.new.buffer
-    (search rules) h (omega arith) c.split-at.ensures.front c.split-at.ensures.back
+    (search rules) h (omega arith) c.split_at.ensures.front c.split_at.ensures.back
     c.put-2.ensures c.compress.ensures c.absorb.ensures refl c.put-3.ensures

@@ -6,10 +6,10 @@ use Rattle.std.proofs.Common.{sym, ◌∙◌, arith}
 pub loop-i-preserved : goal.loop-i-preserved
 loop-i-preserved c =
     let i = c.loop-i.invariant in
-    let h = sym c.is-live.ensures in
-    elim c.if-is-live.branch [
-      | then-is-live w ↦ simp (w.entries-is, w.k-is) (FiltersInPlace-more_swap i.0 (omega (arith, i.0)) (h ∙ w.if-is-live.true) c.index.ensures w.swap.ensures.by_index, w.swap.ensures.capacity ∙ i.1)
-      | else-is-live w ↦ simp (w.entries-is, w.k-is) (FiltersInPlace-more_no i.0 (omega (arith, i.0)) (h ∙ w.if-is-live.false) c.index.ensures, i.1)
+    let h = sym c.is_live.ensures in
+    elim c.if-is_live.branch [
+      | then-is-live w ↦ simp (w.entries-is, w.k-is) (FiltersInPlace-more_swap i.0 (omega (arith, i.0)) (h ∙ w.if-is_live.true) c.index.ensures w.swap.ensures.by_index, w.swap.ensures.capacity ∙ i.1)
+      | else-is-live w ↦ simp (w.entries-is, w.k-is) (FiltersInPlace-more_no i.0 (omega (arith, i.0)) (h ∙ w.if-is_live.false) c.index.ensures, i.1)
     ]
 
 pub returns : goal.returns

@@ -10,10 +10,10 @@ loop-entry-preserved c =
     let yes' = length-live-yes c.args.tick c.args.lag c.args.entries.now c.loop-entry.entry-index c.loop-entry-test.true in
     let no' = length-live-no c.args.tick c.args.lag c.args.entries.now c.loop-entry.entry-index c.loop-entry-test.true in
     let i = c.loop-entry.invariant in
-    let h = sym c.is-live.ensures in
-    elim c.if-is-live.branch [
-      | then-is-live w ↦ (omega (arith, i, w.live-is, yes' (h ∙ w.if-is-live.true)), omega (arith, i, w.live-is))
-      | else-is-live w ↦ (omega (arith, i, w.live-is, no' (h ∙ w.if-is-live.false)), omega (arith, i, w.live-is))
+    let h = sym c.is_live.ensures in
+    elim c.if-is_live.branch [
+      | then-is-live w ↦ (omega (arith, i, w.live-is, yes' (h ∙ w.if-is_live.true)), omega (arith, i, w.live-is))
+      | else-is-live w ↦ (omega (arith, i, w.live-is, no' (h ∙ w.if-is_live.false)), omega (arith, i, w.live-is))
     ]
 
 pub returns : goal.returns

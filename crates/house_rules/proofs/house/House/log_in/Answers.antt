@@ -8,8 +8,8 @@ returns-in-Some g c =
 
 pub give-requires : goal.give-requires
 give-requires g c =
-    login-drawn c.args.self.now.side (g.A.Accounts.listed c.args.accounts.now) (g.D.Drawn.left c.args.drawn.now) c.args.reader c.args.login c.in-default.ensures
+    login-drawn c.args.self.now.side (g.A.Accounts.listed c.args.accounts.now) (g.D.Drawn.left c.args.drawn.now) c.args.reader c.args.login c.in_default.ensures
 
 pub returns : goal.returns
 returns g c =
-    λ es j w. login-granted c.args.self.now (g.A.Accounts.listed c.args.accounts.now) es j w (g.D.Drawn.left c.args.drawn.now) _ c.args.reader c.args.login c.give.result c.own-key.result c.in-default.ensures c.own-key.ensures c.give.ensures.value c.give.ensures.rest
+    λ es j w. login-granted c.args.self.now (g.A.Accounts.listed c.args.accounts.now) es j w (g.D.Drawn.left c.args.drawn.now) _ c.args.reader c.args.login c.give.result c.own_key.result c.in_default.ensures c.own_key.ensures c.give.ensures.value c.give.ensures.rest

@@ -9,7 +9,7 @@ pub returns-in-Ok-Login : goal.returns-in-Ok-Login
 returns-in-Ok-Login g c =
     let s = c.args.self.now in
     let m = g.M.Memory in
-    let last = c.log-in.new.self in
+    let last = c.log_in.new.self in
     let es = m.kept s.memory in
     let j = m.junk s.memory in
     let w = m.writes last.memory in
@@ -20,9 +20,9 @@ returns-in-Ok-Login g c =
     let login = c.in-Ok-Login.login in
     let r = c.in-Ok-Login.ensures es j w bs in
     let e : read_at_house ours h c.args.word.now ≡ logs reader login = search rules in
-    let k = c.log-in.ensures in
+    let k = c.log_in.ensures in
     record {
-      hears = heard-as ours h c.args.word.now (logs reader login) c.told-login.result h' e (told-login ours h reader login c.log-in.result c.told-login.result k.answer c.told-login.ensures) k.after;
+      hears = heard-as ours h c.args.word.now (logs reader login) c.told-login.result h' e (told-login ours h reader login c.log_in.result c.told-login.result k.answer c.told-login.ensures) k.after;
       accounts = k.accounts;
       keeps = subst (m.keeps s.memory) (sym k.memory) (g.met.M.Memory.same s.memory);
       same = search rules;

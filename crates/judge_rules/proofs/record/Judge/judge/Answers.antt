@@ -5,37 +5,37 @@ use Rattle.judge_rules.specs.Judge.{Noted, act_of, oldest, plain, said, unasked,
 use Rattle.judge_rules.specs.declared.record.Line.{Line}
 use Rattle.std.proofs.Common.{◌≡◌, ◌<◌, List, map, length, Some, None, vec_items, vec_len, sym, refl, ap, ◌∙◌, subst, arith, rules}
 
-pub returns-in-default : goal.returns-in-default
-returns-in-default c =
+pub returns-in_default : goal.returns-in_default
+returns-in_default c =
     let e : found_at (oldest c.args.self.now.lag (act_of c.args.done.now) 0 (map plain (vec_items c.args.self.now.lines))) ≡ None =
-    subst (λ (xs : List Line). found_at (oldest c.args.self.now.lag (act_of c.args.done.now) 0 (map plain xs)) ≡ None) c.as-slice.ensures.value (sym c.find.ensures ∙ c.in-default.is) in
+    subst (λ (xs : List Line). found_at (oldest c.args.self.now.lag (act_of c.args.done.now) 0 (map plain xs)) ≡ None) c.as_slice.ensures.value (sym c.find.ensures ∙ c.in_default.is) in
     let s = spends-none c.args.self.now.lag (act_of c.args.done.now) 0 (map plain (vec_items c.args.self.now.lines)) e in
     record {
-      answer = c.without-line.ensures ∙ ap (λ o. said o (unasked (robbed (seen c.args.self.now) c.args.done.now.reader) (robbed (seen c.args.self.now) c.args.done.now.service) (robbed (seen c.args.self.now) 0))) (sym s.0);
+      answer = c.without_line.ensures ∙ ap (λ o. said o (unasked (robbed (seen c.args.self.now) c.args.done.now.reader) (robbed (seen c.args.self.now) c.args.done.now.service) (robbed (seen c.args.self.now) 0))) (sym s.0);
       after = ap (λ (ls : List Noted). with-lines ls (seen c.args.self.now)) (sym s.1);
     }
 
 pub index-line-requires : goal.index-line-requires
 index-line-requires c =
-    let w = within c.args.self.now.lag (act_of c.args.done.now) c.as-slice.result.now c.in-Some.i (sym c.in-Some.is ∙ c.find.ensures) in
-    omega (arith, c.as-slice.ensures.len)
+    let w = within c.args.self.now.lag (act_of c.args.done.now) c.as_slice.result.now c.in-Some.i (sym c.in-Some.is ∙ c.find.ensures) in
+    omega (arith, c.as_slice.ensures.len)
 
-pub index-mut-requires : goal.index-mut-requires
-index-mut-requires c =
-    let w = within c.args.self.now.lag (act_of c.args.done.now) c.as-slice.result.now c.in-Some.i (sym c.in-Some.is ∙ c.find.ensures) in
-    omega (arith, c.as-slice.ensures.len)
+pub index_mut-requires : goal.index_mut-requires
+index_mut-requires c =
+    let w = within c.args.self.now.lag (act_of c.args.done.now) c.as_slice.result.now c.in-Some.i (sym c.in-Some.is ∙ c.find.ensures) in
+    omega (arith, c.as_slice.ensures.len)
 
 pub overflow-add-result : goal.overflow-add-result
 overflow-add-result c =
-    let w = within c.args.self.now.lag (act_of c.args.done.now) c.as-slice.result.now c.in-Some.i (sym c.in-Some.is ∙ c.find.ensures) in
+    let w = within c.args.self.now.lag (act_of c.args.done.now) c.as_slice.result.now c.in-Some.i (sym c.in-Some.is ∙ c.find.ensures) in
     let v = c.args.self.now.lines.small in
-    let e = c.as-slice.ensures.len in
+    let e = c.as_slice.ensures.len in
     search rules
 
 pub returns : goal.returns
 returns c =
     let e : Some c.in-Some.i ≡ found_at (oldest c.args.self.now.lag (act_of c.args.done.now) 0 (map plain (vec_items c.args.self.now.lines))) =
-    subst (λ (xs : List Line). Some c.in-Some.i ≡ found_at (oldest c.args.self.now.lag (act_of c.args.done.now) 0 (map plain xs))) c.as-slice.ensures.value (sym c.in-Some.is ∙ c.find.ensures) in
+    subst (λ (xs : List Line). Some c.in-Some.i ≡ found_at (oldest c.args.self.now.lag (act_of c.args.done.now) 0 (map plain xs))) c.as_slice.ensures.value (sym c.in-Some.is ∙ c.find.ensures) in
     let t = taken c.args.self.now.lag (act_of c.args.done.now) (vec_items c.args.self.now.lines) c.in-Some.i c.index-line.result.now e c.index-line.ensures in
     record {
       answer = ap (λ o. said o (unasked (robbed (seen c.args.self.now) c.args.done.now.reader) (robbed (seen c.args.self.now) c.args.done.now.service) (robbed (seen c.args.self.now) 0))) (sym t.is);

@@ -8,7 +8,7 @@ use Rattle.std.proofs.Common.{◌++◌, get_or, refl, ap, ◌∙◌, arith}
 pub loop-byte-preserved : goal.loop-byte-preserved
 loop-byte-preserved c =
     hex-more (shown c.args.self.now) (shown c.loop-byte.self) (shown c.octet.new.self) c.args.bytes.now c.loop-byte.byte-index
-    (get_or c.args.bytes.now c.loop-byte.byte-index 0) c.loop-byte-test.true refl c.loop-byte.invariant c.in-ok-octet.ensures
+    (get_or c.args.bytes.now c.loop-byte.byte-index 0) c.loop-byte-test.true refl c.loop-byte.invariant c.in_ok-octet.ensures
 
 pub returns : goal.returns
 returns c =

@@ -14,27 +14,27 @@ returns-in-Some g c =
 
 pub record-requires : goal.record-requires
 record-requires g c =
-    (met c.args.self.now (g.M.Memory.kept c.args.memory.now) (g.D.Drawn.left c.args.drawn.now) c.args.ticket c.args.asking c.args.digest (sym c.in-default.ensures)).room
+    (met c.args.self.now (g.M.Memory.kept c.args.memory.now) (g.D.Drawn.left c.args.drawn.now) c.args.ticket c.args.asking c.args.digest (sym c.in_default.ensures)).room
 
 pub returns-then-not-record : goal.returns-then-not-record
 returns-then-not-record g c =
     let m = c.args.memory.now in
     let r = c.record.ensures in
     record {
-      decides = left_alone c.args.self.now (g.M.Memory.kept m) _ (g.M.Memory.junk m) _ _ c.record.result (g.D.Drawn.left c.args.drawn.now) c.args.ticket c.args.asking c.args.digest (sym c.in-default.ensures) r.wrote c.if-not-record.true r.kept r.junk;
+      decides = left_alone c.args.self.now (g.M.Memory.kept m) _ (g.M.Memory.junk m) _ _ c.record.result (g.D.Drawn.left c.args.drawn.now) c.args.ticket c.args.asking c.args.digest (sym c.in_default.ensures) r.wrote c.if-not-record.true r.kept r.junk;
       keeps = r.keeps;
     }
 
-pub take-16-requires : goal.take-16-requires
-take-16-requires g c =
-    (met c.args.self.now (g.M.Memory.kept c.args.memory.now) (g.D.Drawn.left c.args.drawn.now) c.args.ticket c.args.asking c.args.digest (sym c.in-default.ensures)).drawn
+pub take_16-requires : goal.take_16-requires
+take_16-requires g c =
+    (met c.args.self.now (g.M.Memory.kept c.args.memory.now) (g.D.Drawn.left c.args.drawn.now) c.args.ticket c.args.asking c.args.digest (sym c.in_default.ensures)).drawn
 
 pub returns : goal.returns
 returns g c =
     let m = c.args.memory.now in
     let r = c.record.ensures in
-    let u = c.take-16.ensures in
+    let u = c.take_16.ensures in
     record {
-      decides = written c.args.self.now (g.M.Memory.kept m) _ (g.M.Memory.junk m) _ _ c.record.result (g.D.Drawn.left c.args.drawn.now) _ c.take-16.result c.args.ticket c.args.asking c.args.digest (sym c.in-default.ensures) r.wrote c.if-not-record.false r.kept r.junk u.value u.rest;
+      decides = written c.args.self.now (g.M.Memory.kept m) _ (g.M.Memory.junk m) _ _ c.record.result (g.D.Drawn.left c.args.drawn.now) _ c.take_16.result c.args.ticket c.args.asking c.args.digest (sym c.in_default.ensures) r.wrote c.if-not-record.false r.kept r.junk u.value u.rest;
       keeps = r.keeps;
     }

@@ -2,10 +2,10 @@ use Rattle.held.proofs.supply.usage.SupplyDrawn.take_16.Goals as goal
 use Rattle.held.proofs.Parts.{cut}
 use Rattle.std.proofs.Common.{vec_items, sym, ◌∙◌, arith, length-drop, drop-drop}
 
-pub slice-bounds-copy-from-slice-end-2 : goal.slice-bounds-copy-from-slice-end-2
-slice-bounds-copy-from-slice-end-2 c =
+pub slice-bounds-copy_from_slice-end-2 : goal.slice-bounds-copy_from_slice-end-2
+slice-bounds-copy_from_slice-end-2 c =
     let s = c.args.self.now in
-    omega (arith, c.requires, length-drop s.used (vec_items s.bytes), s.bytes.ok.0, c.as-slice.ensures.len)
+    omega (arith, c.requires, length-drop s.used (vec_items s.bytes), s.bytes.ok.0, c.as_slice.ensures.len)
 
 pub invariant-of-self : goal.invariant-of-self
 invariant-of-self c =
@@ -15,4 +15,4 @@ invariant-of-self c =
 pub returns : goal.returns
 returns c =
     let s = c.args.self.now in
-    record { value = c.copy-from-slice.ensures.after ∙ cut 16 s.used _ _ c.as-slice.ensures.value; rest = sym (drop-drop 16 s.used (vec_items s.bytes)) }
+    record { value = c.copy_from_slice.ensures.after ∙ cut 16 s.used _ _ c.as_slice.ensures.value; rest = sym (drop-drop 16 s.used (vec_items s.bytes)) }
