@@ -1,18 +1,17 @@
 -- What whoever hears a ticket, a letter, an asking or a login may conclude from it. Assumes nothing.
 use mathlib.Core.Path.{◌≡◌, refl, sym, subst, ◌∙◌, ap}
-use mathlib.Core.Bool.{true, false}
+use mathlib.Core.Bool.{true}
 use mathlib.Core.Logic.{◌⊎◌, inl, inr}
-use mathlib.Core.List.{List, [], ◌∷◌, ◌++◌, Memᴰ}
-use Prim.Native.Nat.{ℕ, ◌+◌, ◌*◌, ◌≤◌, ◌<◌}
+use mathlib.Core.List.{Memᴰ}
+use Prim.Native.Nat.{ℕ, ◌*◌}
 use native.Mathlib.Omega.{arith}
-use Rattle.tickets.specs.Term.{Term, Num, Drawn, Own, Pair, Lock, even}
-use Rattle.tickets.specs.State.{Rules, Lately, Line, Stage, LoggingIn, AskingHouse, Wish, Key, Asked, Done, Closing, State, Safe, is_in, relies}
-use Rattle.tickets.specs.Event.{Body, body_term, body_of, ticket, letter, asking, login, receipt, Hears, DoneBefore}
-use Rattle.tickets.specs.Promise.{Answers, MadeUpon, MadeFor}
-use Rattle.tickets.proofs.Bools.{Sub, Unsafe, clash, unsafe-reader, unsafe-service, unsafe-house, unsafe-wider, safe-back, safe-service, safe-narrower, even-injective}
-use Rattle.tickets.proofs.Known
+use Rattle.tickets.specs.Term.{Term, Num, Own, Pair, even}
+use Rattle.tickets.specs.State.{Rules, AskingHouse, Wish, Key, Asked, Done, State, Safe, is_in}
+use Rattle.tickets.specs.Event.{Body, body_term, body_of, ticket, letter, asking, Hears}
+use Rattle.tickets.specs.Promise.{MadeUpon, MadeFor}
+use Rattle.tickets.proofs.Bools.{Unsafe, clash, unsafe-reader, unsafe-house, safe-back, safe-service, even-injective}
 use Rattle.tickets.proofs.Known.{Known}
-use Rattle.tickets.proofs.Inv.{GivenKey, Under, by-own, by-session, by-forged, HoldsKey, key-given, key-forged, Ticketed, ticket-made, ticket-forged, NotBefore, Inv, known-unsafe, unsafe-known, own-stolen, safe-unknown, letter-unsafe, gets-known, ticket-cases, letter-cases, asking-cases}
+use Rattle.tickets.proofs.Inv.{GivenKey, Under, by-own, by-session, by-forged, HoldsKey, key-given, key-forged, Ticketed, ticket-made, ticket-forged, Inv, known-unsafe, unsafe-known, own-stolen, safe-unknown, letter-unsafe, gets-known, ticket-cases, letter-cases, asking-cases}
 
 -- an asking that was sent, with just this inside
 pub record Sent (s : State) (b : Body) (n w : Term) (t : ℕ) (q : Asked) : Type 0 where

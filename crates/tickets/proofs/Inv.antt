@@ -1,20 +1,19 @@
 -- What holds of every state that can be reached, and what follows of it for what outsiders may know. Assumes nothing.
-use mathlib.Core.Path.{◌≡◌, refl, sym, subst, ◌∙◌, ap}
+use mathlib.Core.Path.{◌≡◌, refl, sym, subst}
 use mathlib.Core.Bool.{true, false}
 use mathlib.Core.Logic.{◌⊎◌, inl, inr}
-use mathlib.Core.List.{List, [], ◌∷◌, ◌++◌, Memᴰ}
+use mathlib.Core.List.{List, [], ◌∷◌, Memᴰ}
 use Prim.Native.Nat.{ℕ, ◌+◌, ◌*◌, ◌≤◌, ◌<◌}
 use native.Mathlib.Omega.{arith}
 use Rattle.tickets.specs.Term.{Term, Num, Drawn, Own, Pair, Lock, Gets, has, num, pair, left, right, lock, open', even}
 use Rattle.tickets.specs.Term
-use Rattle.tickets.specs.State.{Rules, Line, Stage, LoggingIn, AskingHouse, Wish, Key, Asked, Done, Closing, State, Safe, is_in, relies}
-use Rattle.tickets.specs.Event.{Body, body_term, body_of, ticket, letter, asking, login, receipt}
+use Rattle.tickets.specs.State.{Rules, Line, LoggingIn, AskingHouse, Wish, Key, Asked, Done, Closing, State, Safe, is_in, relies}
+use Rattle.tickets.specs.Event.{body_term, body_of}
 use Rattle.tickets.specs.Promise.{Answers, AsWanted, MadeUpon, CameBy, Began, WantedBy, GaveKey}
 use Rattle.tickets.specs.State.{any_in}
 use Rattle.tickets.proofs.Bools
 use Rattle.tickets.proofs.Bools.{Sub, Unsafe, clash, unsafe-reader, unsafe-service, unsafe-house, unsafe-wider, even-injective}
-use Rattle.tickets.proofs.Known
-use Rattle.tickets.proofs.Known.{Known, Grows, known-grows}
+use Rattle.tickets.proofs.Known.{Known}
 
 -- a session key that was made for this reader and service
 pub record GivenKey (s : State) (who service : ℕ) (key : Term) (m : Key) : Type 0 where

@@ -2,14 +2,14 @@
 use mathlib.Core.Path.{◌≡◌, refl, sym, subst, ◌∙◌, ap}
 use mathlib.Core.Bool.{true, false}
 use mathlib.Core.Logic.{◌⊎◌, inl, inr}
-use mathlib.Core.List.{List, [], ◌∷◌, ◌++◌, Memᴰ}
-use Prim.Native.Nat.{ℕ, ◌+◌, ◌*◌, ◌≤◌, ◌<◌}
+use mathlib.Core.List.{List, Memᴰ}
+use Prim.Native.Nat.{ℕ, ◌*◌, ◌≤◌, ◌<◌}
 use native.Mathlib.Omega.{arith}
 use Rattle.tickets.specs.Term.{Term, even}
-use Rattle.tickets.specs.State.{Rules, Line, Stage, LoggingIn, AskingHouse, Wish, Key, Asked, Done, Closing, State, Safe, is_in, relies}
-use Rattle.tickets.specs.Promise.{Answers, AsWanted, MadeUpon, CameBy, Began, WantedBy, GaveKey}
-use Rattle.tickets.proofs.Bools.{Sub, Unsafe, clash, any_in-sub}
-use Rattle.tickets.proofs.Grown.{Grown, same, more, Two, both-old, first-new, second-new, one-new, grown-cases, grown-two, grown-old, unique-grown}
+use Rattle.tickets.specs.State.{Rules, Line, Stage, LoggingIn, AskingHouse, Wish, Key, Asked, Done, Closing, State, is_in, relies}
+use Rattle.tickets.specs.Promise.{Answers, MadeUpon, CameBy, Began, WantedBy, GaveKey}
+use Rattle.tickets.proofs.Bools.{Unsafe, clash, any_in-sub}
+use Rattle.tickets.proofs.Grown.{Grown, same, more, Two, both-old, first-new, second-new, one-new, grown-cases, grown-two, unique-grown}
 use Rattle.tickets.proofs.Known.{Known, Grows, known-grows}
 use Rattle.tickets.proofs.Inv.{GivenKey, Under, by-own, by-session, by-forged, HoldsKey, key-given, key-forged, LineOk, WishOk, KeyOk, AskedOk, Ticketed, ticket-made, ticket-forged, DoneOk, NotBefore, EachOnce, Inv, known-low}
 

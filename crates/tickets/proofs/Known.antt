@@ -1,11 +1,10 @@
 -- What outsiders may know in a state, and that a state that has grown keeps it. Assumes nothing.
-use mathlib.Core.Path.{◌≡◌, refl, sym}
-use mathlib.Core.Bool.{true, false}
-use mathlib.Core.Logic.{◌⊎◌, inl, inr}
-use mathlib.Core.List.{List, Memᴰ}
+use mathlib.Core.Path.{◌≡◌}
+use mathlib.Core.Bool.{true}
+use mathlib.Core.List.{Memᴰ}
 use Prim.Native.Nat.{ℕ, ◌+◌, ◌*◌, ◌≤◌}
 use Rattle.tickets.specs.Term.{Term, Num, Drawn, Own, Pair, Lock, even}
-use Rattle.tickets.specs.State.{Rules, Line, Stage, LoggingIn, Wish, Key, Asked, Done, State, is_in, relies}
+use Rattle.tickets.specs.State.{Rules, Line, LoggingIn, Wish, Key, Asked, Done, State, is_in, relies}
 use Rattle.tickets.specs.Event.{body_term, body_of}
 use Rattle.tickets.proofs.Bools.{Sub, Unsafe, any_in-sub}
 

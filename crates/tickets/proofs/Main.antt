@@ -1,13 +1,13 @@
 -- The promises of the whole, from the invariant. Assumes nothing.
-use mathlib.Core.Path.{◌≡◌, refl, sym, subst, ◌∙◌, ap}
-use mathlib.Core.Bool.{Bool, true, false}
+use mathlib.Core.Path.{◌≡◌, sym, subst, ◌∙◌, ap}
+use mathlib.Core.Bool.{true, false}
 use mathlib.Core.Logic.{◌⊎◌, inl, inr}
 use mathlib.Core.List.{List, [], ◌∷◌, ◌++◌, Memᴰ}
-use Prim.Native.Nat.{ℕ, ◌+◌, ◌*◌, ◌≤◌, ◌<◌}
+use Prim.Native.Nat.{ℕ, ◌+◌, ◌≤◌}
 use native.Mathlib.Omega.{arith}
-use Rattle.tickets.specs.Term.{Term, Num, Own, Pair, Gets, even}
+use Rattle.tickets.specs.Term.{Term, Num, Pair, Gets, even}
 use Rattle.tickets.specs.State.{Rules, Wish, Key, Asked, Done, Closing, State, Safe, is_in, any_in, relies}
-use Rattle.tickets.specs.Event.{Body, ticket, asking, receipt, Event, Reach}
+use Rattle.tickets.specs.Event.{Body, ticket, asking, receipt}
 use Rattle.tickets.specs.Promise.{Answers, Origin, by-reader, origin_line, MadeUpon, MadeFor, CameBy, SentUnder, Whole, Main}
 use Rattle.tickets.proofs.Bools.{clash, unsafe-wider, safe-back, even-injective}
 use Rattle.tickets.proofs.Known.{Known}

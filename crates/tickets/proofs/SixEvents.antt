@@ -1,17 +1,17 @@
 -- From every state whoever has an open account is served by six events. Assumes nothing.
 use mathlib.Core.Path.{◌≡◌, refl, sym, subst, ◌∙◌, ap}
-use mathlib.Core.Bool.{Bool, true, false}
+use mathlib.Core.Bool.{true, false}
 use mathlib.Core.Logic.{◌⊎◌, inl, inr}
 use mathlib.Core.List.Memᴰ
-use mathlib.Core.List.{List, [], ◌∷◌, Memᴰ}
-use Prim.Native.Nat.{ℕ, ◌+◌, ◌*◌, ◌≤◌, ◌<◌}
+use mathlib.Core.List.{◌∷◌, Memᴰ}
+use Prim.Native.Nat.{ℕ, ◌+◌, ◌*◌, ◌≤◌}
 use native.Mathlib.Omega.{arith}
 use Rattle.tickets.specs.Term.{Term, Num, Own, Gets, has, even}
 use Rattle.tickets.specs.State.{Rules, LoggingIn, AskingHouse, Wish, Done, State, is_in, is_closed}
 use Rattle.tickets.specs.Event
 use Rattle.tickets.specs.Event.{Body, Event, after, May, Later, DoneBefore, Wants, HearsLogin, Takes, Serves, Does, new_line, new_wish, new_done}
-use Rattle.tickets.specs.Promise.{ServedBy, six}
-use Rattle.tickets.proofs.Bools.{clash, either, even-injective}
+use Rattle.tickets.specs.Promise.{ServedBy}
+use Rattle.tickets.proofs.Bools.{clash, either}
 use Rattle.tickets.proofs.Known.{Known}
 use Rattle.tickets.proofs.Inv.{Inv, known-low}
 use Rattle.tickets.proofs.Steps.{is_in-cases}

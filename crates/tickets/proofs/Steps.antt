@@ -1,23 +1,22 @@
 -- Each event changes what it may, so that the invariant holds of every state that can be reached. Assumes nothing.
 use mathlib.Core.Path.{◌≡◌, refl, sym, subst, ◌∙◌, ap}
-use mathlib.Core.Bool.{Bool, true, false}
+use mathlib.Core.Bool.{true, false}
 use mathlib.Core.Logic.{◌⊎◌, inl, inr}
 use mathlib.Core.List.Memᴰ
-use mathlib.Core.List.{List, [], ◌∷◌, ◌++◌, Memᴰ}
-use Prim.Native.Nat.{ℕ, ◌+◌, ◌*◌, ◌≤◌, ◌<◌}
+use mathlib.Core.List.{List, [], ◌∷◌, Memᴰ}
+use Prim.Native.Nat.{ℕ, ◌*◌, ◌≤◌, ◌<◌}
 use native.Mathlib.Omega.{arith}
 use lib.Dec.{eqb}
 use borrow.Author.Tests.{eqb-true, eq-eqb}
-use Rattle.tickets.specs.Term.{Term, Num, Drawn, Own, Pair, Lock, Gets, even}
-use Rattle.tickets.specs.State.{Rules, Lately, Line, Stage, LoggingIn, AskingHouse, Wish, Key, Asked, Done, Closing, State, Safe, is_in, is_closed, relies, start}
+use Rattle.tickets.specs.Term.{Term, Num, Own, Pair, Gets, even}
+use Rattle.tickets.specs.State.{Rules, Lately, Line, LoggingIn, AskingHouse, Wish, Key, Asked, Closing, State, Safe, is_in, is_closed, start}
 use Rattle.tickets.specs.Event
 use Rattle.tickets.specs.Event.{Body, body_of, ticket, letter_of, asking_of, login_of, receipt, Event, after, May, Later, Reach, HearsLogin, Hears, Serves, Does, Takes, HoldsHouse, HoldsService, Wants, new_line, new_wish, new_asked, new_key, new_done}
 use Rattle.tickets.specs.Promise.{Answers, AsWanted, MadeUpon, MadeFor, CameBy, Began, WantedBy, GaveKey}
-use Rattle.tickets.proofs.Bools.{Sub, Unsafe, clash, or_cases, or-false-left, or-false-right, is_in-here, is_in-more, sub_refl, sub_more}
+use Rattle.tickets.proofs.Bools.{Sub, clash, or_cases, or-false-left, or-false-right, is_in-here, sub_refl, sub_more}
 use Rattle.tickets.proofs.Grown.{Grown, same, more, grown-old}
-use Rattle.tickets.proofs.Known
 use Rattle.tickets.proofs.Known.{Known, Grows, known-grows}
-use Rattle.tickets.proofs.Inv.{GivenKey, Under, by-own, by-session, by-forged, HoldsKey, key-given, key-forged, WishOk, KeyOk, AskedOk, Ticketed, ticket-made, ticket-forged, DoneOk, Inv, own-stolen, gets-known, login-cases}
+use Rattle.tickets.proofs.Inv.{GivenKey, Under, by-own, by-session, by-forged, HoldsKey, key-given, key-forged, AskedOk, Ticketed, ticket-made, ticket-forged, DoneOk, Inv, own-stolen, gets-known, login-cases}
 use Rattle.tickets.proofs.Keep.{Change, NewLine, NewWish, NewKey, NewAsked, NewDone, upon-grows, answers-grows, keep}
 use Rattle.tickets.proofs.Keep
 use Rattle.tickets.proofs.Hearing

@@ -1,6 +1,6 @@
 -- Worked cases: what happened, row by row, and what is so then. The proofs are in proofs/Cases.antt.
 -- A row: the rules, the events with the newest first, and claims about the state that they leave. Assumes nothing.
-use Rattle.std.specs.Prelude.{◌≡◌, cond, ℕ, zero, suc, ◌+◌, eqb}
+use Rattle.std.specs.Prelude.{◌≡◌, cond, ℕ, zero, suc, eqb}
 use mathlib.Core.List.{List, [], ◌∷◌, ◌++◌, Memᴰ}
 use Rattle.tickets.specs.Term.{Term, Num, Drawn, Own, Gets, even}
 use Rattle.tickets.specs.State.{Rules, Lately, Good, early, Line, LoggingIn, AskingHouse, Wish, Key, Asked, Done, State, Safe, start}

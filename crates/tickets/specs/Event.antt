@@ -1,9 +1,9 @@
 -- Everything that may happen, what each event needs, and what it leaves.
 -- The net is the outsiders': whoever hears a word hears what can be worked out of all that was sent and stolen. Assumes nothing.
-use Rattle.std.specs.Prelude.{◌≡◌, true, false, ℕ, ◌+◌}
+use Rattle.std.specs.Prelude.{◌≡◌, false, ℕ, ◌+◌}
 use mathlib.Core.List.{List, [], ◌∷◌, Memᴰ}
 use Rattle.tickets.specs.Term.{Term, Num, Own, Pair, Lock, Gets, even}
-use Rattle.tickets.specs.State.{Rules, Lately, Good, Remembered, early, keep, Line, Stage, LoggingIn, AskingHouse, Wish, Key, Asked, Done, Closing, State, is_in, is_closed, start, ticked, drew, said, with-stolen, with-closed, with-line, with-wish, with-taken, with-key, with-asked, with-done}
+use Rattle.tickets.specs.State.{Rules, Lately, Good, Remembered, early, keep, Line, Stage, LoggingIn, AskingHouse, Wish, Key, Asked, Done, State, is_in, is_closed, start, ticked, drew, said, with-stolen, with-closed, with-line, with-wish, with-taken, with-key, with-asked, with-done}
 
 -- what stands in a ticket: for which service, whose it is, the session key, until when it is good
 pub record Body : Type 0 where

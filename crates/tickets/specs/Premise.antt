@@ -1,6 +1,6 @@
 -- All that is assumed of locks, as bytes: no other assumption enters the promise of the whole. Assumes nothing.
-use Rattle.std.specs.Prelude.{◌≡◌, Bool, true, false, cond, ◌&&◌, ◌||◌, not, ◌⊎◌, ℕ, zero, suc, ◌+◌, ◌*◌, ◌<◌, ◌≤◌, ◌/◌, ◌%◌, eqb, ltb, leb, T, length}
-use mathlib.Core.List.{List, [], ◌∷◌, ◌++◌, Memᴰ}
+use Rattle.std.specs.Prelude.{◌≡◌, Bool, true, ◌&&◌, ◌⊎◌, ℕ, eqb, ltb, leb, length}
+use mathlib.Core.List.{List, [], ◌∷◌, Memᴰ}
 use Rattle.tickets.specs.Term.{Term, Lock, Gets}
 
 abbrev pub Bytes : Type 0

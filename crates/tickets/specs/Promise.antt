@@ -1,9 +1,9 @@
 -- What is promised of the whole, in every state that can be reached. The proofs are in proofs/Main.antt. Assumes nothing.
-use Rattle.std.specs.Prelude.{◌≡◌, true, false, ℕ, ◌+◌, ◌≤◌}
+use Rattle.std.specs.Prelude.{◌≡◌, false, ℕ, ◌+◌, ◌≤◌}
 use mathlib.Core.List.{List, [], ◌∷◌, ◌++◌, Memᴰ}
 use Rattle.tickets.specs.Term.{Term, Num, Own, Gets, even}
-use Rattle.tickets.specs.State.{Rules, Lately, Line, Stage, LoggingIn, AskingHouse, Wish, Key, Asked, Done, Closing, State, Safe, early, is_in, is_closed, start}
-use Rattle.tickets.specs.Event.{Body, ticket, asking, receipt, Event, begins, grants, wants, serves, asks, does, new_line, new_wish, new_done, Later, Reach}
+use Rattle.tickets.specs.State.{Rules, Lately, Line, LoggingIn, AskingHouse, Wish, Key, Asked, Done, Closing, State, Safe, early, is_in, is_closed}
+use Rattle.tickets.specs.Event.{Body, ticket, asking, receipt, Event, begins, grants, wants, serves, asks, does, new_line, new_wish, Later, Reach}
 
 -- the deed was asked: by that reader, of that service, under that key and number, in those words, of lately
 pub record Answers (r : Rules) (s : State) (d : Done) (q : Asked) : Type 0 where

@@ -2,8 +2,8 @@
 -- and everything that was ever on the net.
 -- A line: what a reader wanted of a service, once. A wish: a login or an asking for the house that is under way for a line.
 -- A key made: a session key that the house drew. A deed: what a service, or the house, did. Assumes nothing.
-use Rattle.std.specs.Prelude.{Bool, true, false, ◌||◌, List, [], ◌∷◌, ◌++◌, ◌≡◌, ℕ, ◌+◌, ◌≤◌, eqb}
-use Rattle.tickets.specs.Term.{Term, Own}
+use Rattle.std.specs.Prelude.{Bool, false, ◌||◌, List, [], ◌∷◌, ◌++◌, ◌≡◌, ℕ, ◌+◌, ◌≤◌, eqb}
+use Rattle.tickets.specs.Term.{Term}
 
 -- house: the house's number; life: for how many ticks a ticket is good; lag: for how many an asking is;
 -- key_of: the name of a service's own key, since two services can have one key by a slip
