@@ -9,7 +9,7 @@
 To compare:
 
     python3 tests/crowd.py > crowd.town
-    bin/town crowd.town | grep -E '^(fault|total)' | diff - <(python3 tests/crowd.py --expected)
+    bin/byte_town crowd.town | grep -E '^(fault|total)' | diff - <(python3 tests/crowd.py --expected)
 
 A service or house remembers 8,192 things. In the town each side has 262,208 drawn bytes: that is 8,194 acts of a box at
 32, 4,097 grants of the house at 64, and 16,388 receipts of a service at 16.
