@@ -5,6 +5,8 @@ pub mod Inv
 pub mod Keep
 pub mod Hearing
 pub mod Steps
+pub mod Reached
 pub mod SixEvents
+pub mod AskingMade
 pub mod Main
 pub mod Cases

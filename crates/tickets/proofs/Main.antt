@@ -5,15 +5,16 @@ use mathlib.Core.Logic.{◌⊎◌, inl, inr}
 use mathlib.Core.List.{List, [], ◌∷◌, ◌++◌, Memᴰ}
 use Prim.Native.Nat.{ℕ, ◌+◌, ◌≤◌}
 use native.Mathlib.Omega.{arith}
-use Rattle.tickets.specs.Term.{Term, Num, Pair, Gets, even}
+use Rattle.tickets.specs.Term.{Num, Gets, even}
 use Rattle.tickets.specs.State.{Rules, Wish, Key, Asked, Done, Closing, State, Safe, is_in, any_in, relies}
-use Rattle.tickets.specs.Event.{Body, ticket, asking, receipt}
-use Rattle.tickets.specs.Promise.{Answers, Origin, by-reader, origin_line, MadeUpon, MadeFor, CameBy, SentUnder, Whole, Main}
+use Rattle.tickets.specs.Event.{Body, ticket, receipt}
+use Rattle.tickets.specs.Promise.{Answers, Origin, by-reader, origin_line, MadeUpon, MadeFor, CameBy, Whole, Main}
 use Rattle.tickets.proofs.Bools.{clash, unsafe-wider, safe-back, even-injective}
 use Rattle.tickets.proofs.Known.{Known}
-use Rattle.tickets.proofs.Inv.{HoldsKey, key-given, key-forged, Ticketed, ticket-made, ticket-forged, NotBefore, EachOnce, Inv, known-unsafe, own-stolen, gets-known, asking-cases, receipt-cases}
+use Rattle.tickets.proofs.Inv.{HoldsKey, key-given, key-forged, Ticketed, ticket-made, ticket-forged, NotBefore, EachOnce, Inv, known-unsafe, own-stolen, gets-known, receipt-cases}
 use Rattle.tickets.proofs.Hearing.{ticket-heard}
-use Rattle.tickets.proofs.Steps.{reached}
+use Rattle.tickets.proofs.AskingMade.{asking-was-made}
+use Rattle.tickets.proofs.Reached.{reached}
 use Rattle.tickets.proofs.SixEvents.{served}
 
 -- each deed of a list is the first of its service, key and number
@@ -105,40 +106,6 @@ module _ {r : Rules} {s : State} (i : Inv r s) where
       go (inl m) = m
       go (inr k) = absurd (clash k.1 free)
 
-  asking-was-made : (m : Key) (v : ℕ) (n w : Term) (t : ℕ) → Memᴰ m s.made → Safe r s.stolen m.who m.service
-      → Gets s.air (asking (even m.key) v n w t) → (q : Asked) × SentUnder s m v n w t q
-  asking-was-made m v n w t h safe l = go (asking-cases (gets-known i l))
-    where
-      holder : (q : Asked) → q.key ≡ even m.key → HoldsKey r s q.line.reader q.key (MadeUpon s q.line.reader q.service q.key q.upon q.since)
-          → (q.line.reader ≡ m.who) × (q.service ≡ m.service)
-      holder q e (key-forged k u) = absurd (clash (known-unsafe i m h (subst (Known r s) e k)) safe)
-      holder q e (key-given p g) =
-          let same : p ≡ m = i.one_key p m g.known h (even-injective p.key m.key (sym g.same_key ∙ e)) in
-          (sym g.for-reader ∙ ap (λ (x : Key). x.who) same, sym g.for-service ∙ ap (λ (x : Key). x.service) same)
-
-      go : (Known r s (even m.key) × Known r s (Pair (Num v) (Pair n (Pair w (Num t)))))
-          ⊎ ((q : Asked) × Memᴰ q s.asked × (even m.key ≡ q.key)
-          × (Pair (Num v) (Pair n (Pair w (Num t))) ≡ Pair (Num q.service) (Pair (even q.number) (Pair q.what (Num q.at)))))
-          → (q : Asked) × SentUnder s m v n w t q
-      go (inl k) = absurd (clash (known-unsafe i m h k.0) safe)
-      go (inr k) =
-          let e = k.3 in
-          let f = holder k.0 (sym k.2) (i.asked k.0 k.1).holds in
-          let v-is : k.0.service ≡ v = cc in (
-            k.0,
-            record {
-              known = k.1;
-              by-reader = f.0;
-              of-service = v-is;
-              key-for-service = sym f.1 ∙ v-is;
-              same_key = sym k.2;
-              same_number = cc;
-              in_words = cc;
-              at_tick = cc;
-              from-line = (i.asked k.0 k.1).line;
-            },
-          )
-
   fresh : (q : Asked) → Memᴰ q s.asked → Safe r q.stolen q.line.reader r.house
       → (x : Wish) × CameBy r s q x × (m : Key) × MadeUpon s q.line.reader q.service q.key x.number x.since m
   fresh q h safe =
@@ -169,7 +136,7 @@ module _ {r : Rules} {s : State} (i : Inv r s) where
         kept = λ m h w k. clash (known-unsafe i m h (gets-known i k)) w;
         own-kept = λ a w k. clash (own-stolen i a (gets-known i k)) w;
         ticket-made = ticket-was-made;
-        asking-made = asking-was-made;
+        asking-made = asking-was-made i;
         over = over;
         no-ticket = i.closings;
         logged-in = λ m h. (i.made m h).began;

@@ -9,9 +9,8 @@ use native.Mathlib.Omega.{arith}
 use lib.Dec.{eqb}
 use borrow.Author.Tests.{eqb-true, eq-eqb}
 use Rattle.tickets.specs.Term.{Term, Num, Own, Pair, Gets, even}
-use Rattle.tickets.specs.State.{Rules, Lately, Line, LoggingIn, AskingHouse, Wish, Key, Asked, Closing, State, Safe, is_in, is_closed, start}
-use Rattle.tickets.specs.Event
-use Rattle.tickets.specs.Event.{Body, body_of, ticket, letter_of, asking_of, login_of, receipt, Event, after, May, Later, Reach, HearsLogin, Hears, Serves, Does, Takes, HoldsHouse, HoldsService, Wants, new_line, new_wish, new_asked, new_key, new_done}
+use Rattle.tickets.specs.State.{Rules, Lately, Line, LoggingIn, AskingHouse, Wish, Key, Asked, Closing, State, Safe, is_in, is_closed}
+use Rattle.tickets.specs.Event.{Body, body_of, ticket, letter_of, asking_of, login_of, receipt, Event, after, HearsLogin, Hears, Serves, Does, Takes, HoldsHouse, HoldsService, Wants, new_line, new_wish, new_asked, new_key, new_done}
 use Rattle.tickets.specs.Promise.{Answers, AsWanted, MadeUpon, MadeFor, CameBy, Began, WantedBy, GaveKey}
 use Rattle.tickets.proofs.Bools.{Sub, clash, or_cases, or-false-left, or-false-right, is_in-here, sub_refl, sub_more}
 use Rattle.tickets.proofs.Grown.{Grown, same, more, grown-old}
@@ -88,7 +87,7 @@ module _ {r : Rules} {s : State} (i : Inv r s) where
       go (inl e) = let l = (i.wishes x m).low in omega arith
       go (inr e) = taken-below t h n e
 
-  step-ticks : Change r s (after r Event.ticks s)
+  pub step-ticks : Change r s (after r Event.ticks s)
   step-ticks =
       record {
         grows = grows s (after r Event.ticks s) (omega arith) (omega arith) (sub_refl s.stolen) (sub_refl s.taken) same same same same same;
@@ -102,7 +101,7 @@ module _ {r : Rules} {s : State} (i : Inv r s) where
         taken = taken-below (after r Event.ticks s) (omega arith);
       }
 
-  step-steals : (a : ℕ) → Change r s (after r (Event.steals a) s)
+  pub step-steals : (a : ℕ) → Change r s (after r (Event.steals a) s)
   step-steals a =
       record {
         grows = grows s (after r (Event.steals a) s) (omega arith) (omega arith) (sub_more a s.stolen) (sub_refl s.taken) same same same same same;
@@ -116,7 +115,7 @@ module _ {r : Rules} {s : State} (i : Inv r s) where
         taken = taken-below (after r (Event.steals a) s) (omega arith);
       }
 
-  step-closes : (a : ℕ) → Change r s (after r (Event.closes a) s)
+  pub step-closes : (a : ℕ) → Change r s (after r (Event.closes a) s)
   step-closes a =
       record {
         grows = grows s (after r (Event.closes a) s) (omega arith) (omega arith) (sub_refl s.stolen) (sub_refl s.taken) same same same same same;
@@ -134,7 +133,7 @@ module _ {r : Rules} {s : State} (i : Inv r s) where
       go c (inl e) = inr (ap (λ (o : Closing). o.at) e)
       go c (inr m) = inl m
 
-  step-begins : (a v : ℕ) (w : Term) → Wants r s v w → Change r s (after r (Event.begins a v w) s)
+  pub step-begins : (a v : ℕ) (w : Term) → Wants r s v w → Change r s (after r (Event.begins a v w) s)
   step-begins a v w g =
       record {
         grows = gr;
@@ -173,7 +172,7 @@ module _ {r : Rules} {s : State} (i : Inv r s) where
       no-asking : LoggingIn ≡ AskingHouse → ⊥
       no-asking e = let z : ◌≡◌ {A = ℕ} 0 1 = cc in omega arith
 
-  step-grants : (a : ℕ) (n : Term) (at : ℕ) → HearsLogin r s a n at → Change r s (after r (Event.grants a n at) s)
+  pub step-grants : (a : ℕ) (n : Term) (at : ℕ) → HearsLogin r s a n at → Change r s (after r (Event.grants a n at) s)
   step-grants a n at h =
       record {
         grows = g;
@@ -280,7 +279,7 @@ module _ {r : Rules} {s : State} (i : Inv r s) where
       key-given m (record { known = g.made m h.known; for-reader = h.for-reader; for-service = h.for-service; same_key = h.same_key })
   wish-holds t g a k n f (key-forged x u) = key-forged (known-grows g x) (Keep.unsafe-grows r g a r.house u)
 
-  step-wants : (x : Wish) (k : Term) (u : ℕ) → Takes s x LoggingIn (Own x.line.reader) r.house k u → Change r s (after r (Event.wants x k u) s)
+  pub step-wants : (x : Wish) (k : Term) (u : ℕ) → Takes s x LoggingIn (Own x.line.reader) r.house k u → Change r s (after r (Event.wants x k u) s)
   step-wants x k u h =
       record {
         grows = g;
@@ -346,7 +345,7 @@ module _ {r : Rules} {s : State} (i : Inv r s) where
         },
       )
 
-  step-wish : (p : Asked) (v : ℕ) (w : Term) → HoldsHouse r s p → Wants r s v w → Change r s (after r (Event.wish p v w) s)
+  pub step-wish : (p : Asked) (v : ℕ) (w : Term) → HoldsHouse r s p → Wants r s v w → Change r s (after r (Event.wish p v w) s)
   step-wish p v w h z =
       record {
         grows = g;
@@ -414,7 +413,7 @@ module _ {r : Rules} {s : State} (i : Inv r s) where
             },
           )
 
-  step-again : (p : Asked) (w : Term) → HoldsService r s p → Gets s.air w → Change r s (after r (Event.again p w) s)
+  pub step-again : (p : Asked) (w : Term) → HoldsService r s p → Gets s.air w → Change r s (after r (Event.again p w) s)
   step-again p w h z =
       record {
         grows = g;
@@ -464,7 +463,7 @@ module _ {r : Rules} {s : State} (i : Inv r s) where
             },
           )
 
-  step-asks : (x : Wish) (k : Term) (u : ℕ) → Takes s x AskingHouse x.key x.line.service k u → Change r s (after r (Event.asks x k u) s)
+  pub step-asks : (x : Wish) (k : Term) (u : ℕ) → Takes s x AskingHouse x.key x.line.service k u → Change r s (after r (Event.asks x k u) s)
   step-asks x k u h =
       record {
         grows = g;
@@ -554,7 +553,7 @@ module _ {r : Rules} {s : State} (i : Inv r s) where
         },
       )
 
-  step-does : (b : Body) (n w : Term) (at : ℕ) → Does r s b n w at → Change r s (after r (Event.does b n w at) s)
+  pub step-does : (b : Body) (n w : Term) (at : ℕ) → Does r s b n w at → Change r s (after r (Event.does b n w at) s)
   step-does b n w at h =
       record {
         grows = g;
@@ -576,7 +575,7 @@ module _ {r : Rules} {s : State} (i : Inv r s) where
       g : Grows s t
       g = grows s t (omega arith) (omega arith) (sub_refl s.stolen) (sub_refl s.taken) same same same same (more (new_done s b n w) tt)
 
-  step-serves : (b : Body) (n : Term) (v at : ℕ) → Serves r s b n v at → Change r s (after r (Event.serves b n v at) s)
+  pub step-serves : (b : Body) (n : Term) (v at : ℕ) → Serves r s b n v at → Change r s (after r (Event.serves b n v at) s)
   step-serves b n v at h =
       record {
         grows = g;
@@ -651,52 +650,3 @@ module _ {r : Rules} {s : State} (i : Inv r s) where
           by-session o (record { known = g.made o f.known; for-reader = f.for-reader; for-service = f.for-service ∙ h.for-house; same_key = f.same_key })
       under (inr (k, st)) =
           by-forged (known-grows g k) (subst (λ (x : ℕ). is_in (r.key_of x) s.stolen ≡ true) h.for-house st)
-
-  -- every event changes only what it may
-  pub change : (e : Event) → May r s e → Change r s (after r e s)
-  change Event.ticks h = step-ticks
-  change (Event.steals a) h = step-steals a
-  change (Event.closes a) h = step-closes a
-  change (Event.begins a v w) h = step-begins a v w h
-  change (Event.grants a n t) h = step-grants a n t h
-  change (Event.wants x k u) h = step-wants x k u h
-  change (Event.wish q v w) h = step-wish q v w h.0 h.1
-  change (Event.again q w) h = step-again q w h.0 h.1
-  change (Event.serves b n v t) h = step-serves b n v t h
-  change (Event.asks x k u) h = step-asks x k u h
-  change (Event.does b n w t) h = step-does b n w t h
-
-  -- so every event keeps the invariant
-  pub step : (e : Event) → May r s e → Inv r (after r e s)
-  step e h = keep i (change e h)
-
--- at the start there is nothing
-pub inv-start : (r : Rules) → Inv r start
-unfolding is_in
-inv-start r =
-    record {
-      air = λ x h. absurd (Memᴰ.not-nil h);
-      lines = λ l h. absurd (Memᴰ.not-nil h);
-      wishes = λ x h. absurd (Memᴰ.not-nil h);
-      made = λ m h. absurd (Memᴰ.not-nil h);
-      asked = λ q h. absurd (Memᴰ.not-nil h);
-      done = λ d h. absurd (Memᴰ.not-nil h);
-      one_key = λ m n h. absurd (Memᴰ.not-nil h);
-      one-asking = λ p q h. absurd (Memᴰ.not-nil h);
-      one_number = λ x y h. absurd (Memᴰ.not-nil h);
-      key-no-wish = λ m x h. absurd (Memᴰ.not-nil h);
-      key-no-asking = λ m q h. absurd (Memᴰ.not-nil h);
-      one-wish = λ x y h. absurd (Memᴰ.not-nil h);
-      login-taken = λ x y h. absurd (Memᴰ.not-nil h);
-      wish-taken = λ q x h. absurd (Memᴰ.not-nil h);
-      one-of-line = λ p q h. absurd (Memᴰ.not-nil h);
-      upon-after = λ m x h. absurd (Memᴰ.not-nil h);
-      closings = λ c m h. absurd (Memᴰ.not-nil h);
-      each-once = tt;
-      taken-low = λ n h. absurd (clash {b = false} h refl);
-    }
-
--- the invariant holds of every state that can be reached
-pub reached : {r : Rules} {es : List Event} {s : State} → Reach r es s → Inv r s
-reached {r} Event.here = inv-start r
-reached (Event.onward l e h) = step (reached l) e h
