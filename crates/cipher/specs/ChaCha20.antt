@@ -1,6 +1,6 @@
 -- ChaCha20 as RFC 8439 writes it, on lists of bytes and of sixteen 32-bit words.
 -- Assumes nothing. Vocabulary:
---   _⊞_, rotl        addition modulo 2^32, and x <<< n (section 2.1)
+--   ◌⊞◌, rotl        addition modulo 2^32, and x <<< n (section 2.1)
 --   quarter          QUARTERROUND(a, b, c, d) on a state (sections 2.1 and 2.2)
 --   inner            one column round and one diagonal round (section 2.3)
 --   setup, block     the state of key, counter and nonce, and its 64 bytes (section 2.3)

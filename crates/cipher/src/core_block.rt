@@ -10,7 +10,11 @@ pub struct State {
 
 // x += y; z ^= x; z <<<= n
 fn mix_line(s: &mut [u32; 16], x: usize, y: usize, z: usize, n: u32)
-    requires { (x < 16) × ((y < 16) × ((z < 16) × ((0 < n) × (n < 32)))) }
+    requires x { x < 16 }
+    requires y { y < 16 }
+    requires z { z < 16 }
+    requires some { 0 < n }
+    requires most { n < 32 }
     ensures { s.new ≡ line x y z n s.old }
 {
     s[x] = s[x].wrapping_add(s[y]);
@@ -18,7 +22,10 @@ fn mix_line(s: &mut [u32; 16], x: usize, y: usize, z: usize, n: u32)
 }
 
 fn quarter_round(s: &mut [u32; 16], a: usize, b: usize, c: usize, d: usize)
-    requires { (a < 16) × ((b < 16) × ((c < 16) × (d < 16))) }
+    requires a { a < 16 }
+    requires b { b < 16 }
+    requires c { c < 16 }
+    requires d { d < 16 }
     ensures { s.new ≡ quarter a b c d s.old }
 {
     mix_line(s, a, b, d, 16);

@@ -1,7 +1,7 @@
 // Bytes turned by the key stream, where they stand.
 ghost use Rattle.std.specs.Prelude.{◌≡◌, ◌≤◌, length, bit_xor};
 ghost use Rattle.std.specs.Simd.Lanes.{zip2};
-ghost use Rattle.cipher.specs.ChaCha20.{next, later, blocks_of, turned, block as block_of, chacha20 as turnedBy};
+ghost use Rattle.cipher.specs.ChaCha20.{next, later, blocks_of, turned, block as block_of, chacha20 as turned_by};
 
 use crate::core_block::State;
 
@@ -43,8 +43,8 @@ impl State {
 
 // Turns the bytes by the key stream of the key, the nonce and the counter: the same call turns them back.
 pub fn chacha20(key: &[u8; 32], nonce: &[u8; 12], counter: u32, bytes: &mut [u8])
-    ensures bytes { bytes.new ≡ turnedBy key.now counter nonce.now bytes.old }
-    ensures back { turnedBy key.now counter nonce.now bytes.new ≡ bytes.old }
+    ensures bytes { bytes.new ≡ turned_by key.now counter nonce.now bytes.old }
+    ensures back { turned_by key.now counter nonce.now bytes.new ≡ bytes.old }
 {
     let mut state = State::new(key, nonce, counter);
     state.turn(bytes);

@@ -1,5 +1,5 @@
 -- The block of a key, and its bytes XORed in place.
-use Rattle.std.proofs.Common.{◌≡◌, ℕ, ◌+◌, ◌-◌, ◌<◌, ◌≤◌, true, false, cond, ltb, List, ◌++◌, length, get_or, take, drop, set, replicate, sym, refl, ap, ◌∙◌, append-nil, zero-add, arith}
+use Rattle.std.proofs.Common.{◌≡◌, ℕ, ◌+◌, ◌-◌, ◌<◌, ◌≤◌, true, false, cond, ltb, List, ◌++◌, length, get_or, take, drop, set, replicate, sym, ap, ◌∙◌, append-nil, zero-add}
 use lib.Bits.{bit_xor}
 use Rattle.std.proofs.lemmas.List.{drop-replicate, take_all, drop_all, get_or_default}
 use Rattle.std.proofs.lemmas.List.Edits.{map_over_more}

@@ -1,7 +1,7 @@
 -- A message that comes in parts: what a hasher holds after one more of them.
-use Rattle.std.proofs.Common.{◌≡◌, ℕ, zero, suc, ◌+◌, ◌-◌, ◌*◌, ◌/◌, ◌%◌, ◌^◌, ◌<◌, ◌≤◌, List, [], ◌∷◌, ◌++◌, length, take, drop, replicate, sym, refl, ap, ◌∙◌, append_assoc, append-nil, add-zero, add-suc, arith, length-append, length-drop}
+use Rattle.std.proofs.Common.{◌≡◌, ℕ, zero, suc, ◌+◌, ◌-◌, ◌*◌, ◌/◌, ◌%◌, ◌^◌, ◌<◌, ◌≤◌, List, ◌∷◌, ◌++◌, length, take, drop, replicate, sym, refl, ap, ◌∙◌, append_assoc, append-nil, add-zero, add-suc, arith, length-append, length-drop}
 use native.Mathlib.Nat.{mod-add-mod}
-use Rattle.std.proofs.lemmas.List.{drop-append-le, take-append-le, drop-drop, take-append-drop, take_all, length-take-le, take_at, drop_at, drop_all, take_rest, take-replicate}
+use Rattle.std.proofs.lemmas.List.{drop-append-le, take-append-le, drop-drop, take-append-drop, length-take-le, take_at, drop_at, drop_all, take_rest, take-replicate}
 use Rattle.hash.specs.Sha256.{blocks, compressed, start, zeros, eight, padded, spread, sha256}
 use Rattle.hash.specs.Hasher.{Holds}
 use Rattle.hash.proofs.Rounds.{blocks_more}

@@ -1,8 +1,8 @@
 -- HMAC-SHA-256 as RFC 2104 and RFC 6234 (section 8.2) write it, on lists of bytes.
 -- Assumes nothing. Vocabulary:
 --   block_key   the key as one block: hashed first if it is longer, and filled with zeros
---   masked     each byte of it XORed with ipad or opad
---   hmac       the code of a message under a key, 32 bytes
+--   masked      each byte of it XORed with ipad or opad
+--   hmac        the code of a message under a key, 32 bytes
 use Rattle.std.specs.Prelude.{ℕ, ◌-◌, cond, List, ◌++◌, map, length, replicate, bit_xor, nat_lt}
 use Rattle.hash.specs.Sha256.{sha256}
 

@@ -1,6 +1,6 @@
 -- SHA-256 as RFC 6234 writes it, on lists of bytes and of 32-bit words.
 -- Assumes nothing. Vocabulary:
---   rotr, shr, not32, _⊞_   rotation, shift, complement and addition of 32-bit words (section 3)
+--   rotr, shr, not32, ◌⊞◌   rotation, shift, complement and addition of 32-bit words (section 3)
 --   ch .. ssig1             the six functions on words (section 5.1)
 --   ks, start               the constants K and the first hash value (sections 5.1 and 6.1)
 --   padded                  the message with its padding (section 4.1)

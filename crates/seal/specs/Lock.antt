@@ -2,7 +2,7 @@
 -- Assumes nothing. Vocabulary:
 --   lock        16 drawn bytes, the inside turned, and the sum over both, 16 bytes
 --   opens       the inside of a word, if its sum fits under this kind and key
---   inside_of    the bytes of a word between the drawn ones and the sum
+--   inside_of   the bytes of a word between the drawn ones and the sum
 --   sealed, unsealed   what sealing and opening leave in the word that they are lent
 --   digest      the first 16 bytes of SHA-256 of key and number, as a number
 -- That what was locked opens again, and that nothing else opens, is OpensAgain and OpensLocks,

@@ -8,10 +8,10 @@ loop-round-init c = sym (rounds-none c.args.s.now)
 
 pub loop-round-preserved : goal.loop-round-preserved
 loop-round-preserved c =
-    rounds-more c.loop-round.-round c.args.s.now c.loop-round.w c.inner_block.new.s
+    rounds-more c.loop-round._round c.args.s.now c.loop-round.w c.inner_block.new.s
     c.loop-round.invariant c.inner_block.ensures
 
 pub returns : goal.returns
 returns c =
-    let e : c.loop-round.-round ≡ 10 = omega arith in
+    let e : c.loop-round._round ≡ 10 = omega arith in
     c.loop-round.invariant ∙ ap (λ n. rounds n c.args.s.now) e

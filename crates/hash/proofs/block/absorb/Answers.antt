@@ -1,4 +1,4 @@
-use Rattle.std.proofs.Common.{◌≡◌, ◌/◌, length, sym, refl, ap, ◌∙◌, arith}
+use Rattle.std.proofs.Common.{◌≡◌, ◌/◌, length, sym, ap, ◌∙◌, arith}
 use Rattle.hash.specs.Sha256.{blocks}
 use Rattle.hash.proofs.Rounds.{blocks-none, blocks-slice}
 use Rattle.hash.proofs.block.absorb.Goals as goal

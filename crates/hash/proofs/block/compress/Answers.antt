@@ -1,4 +1,3 @@
-use Rattle.std.proofs.Common.{refl}
 use Rattle.hash.specs.Sha256.{compressed}
 use Rattle.hash.proofs.block.compress.Goals as goal
 

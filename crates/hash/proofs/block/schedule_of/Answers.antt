@@ -1,4 +1,4 @@
-use Rattle.std.proofs.Common.{◌≡◌, ◌+◌, ◌*◌, arith, rules}
+use Rattle.std.proofs.Common.{◌+◌, ◌*◌, arith, rules}
 use Rattle.hash.specs.Sha256.{words, extended}
 use Rattle.hash.proofs.Rounds.{made_more, made_all}
 use Rattle.hash.proofs.block.schedule_of.Goals as goal

@@ -1,4 +1,4 @@
-use Rattle.std.proofs.Common.{◌≡◌, length, take, vec_items, vec_len, sym, ap, ◌∙◌, arith}
+use Rattle.std.proofs.Common.{◌≡◌, length, take, vec_items, sym, ap, ◌∙◌}
 use Rattle.std.proofs.lemmas.List.{with_items_is, take_at}
 use Rattle.seal.specs.Kind.{number_of}
 use Rattle.seal.proofs.Appending.{appended}

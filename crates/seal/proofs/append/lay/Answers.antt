@@ -1,4 +1,4 @@
-use Rattle.std.proofs.Common.{◌≡◌, [], ◌++◌, replicate, is_ok, is_err, vec_items, sym, refl, ap, ◌∙◌, append_assoc, append-nil, rules}
+use Rattle.std.proofs.Common.{[], ◌++◌, replicate, is_ok, is_err, vec_items, sym, refl, ap, ◌∙◌, append_assoc, append-nil, rules}
 use Rattle.std.proofs.lemmas.Result.{err_from_is_err_and, IfOk-from_err}
 use Rattle.std.proofs.lemmas.Slice.{pushed}
 use Rattle.seal.proofs.Appending.{more-after, made-last}

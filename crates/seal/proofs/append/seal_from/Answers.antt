@@ -1,4 +1,3 @@
-use Rattle.std.proofs.Common.{◌≡◌, ◌-◌, [], ◌++◌, length, take, drop, ap, ◌∙◌}
 use Rattle.seal.specs.Kind.{number_of}
 use Rattle.seal.proofs.Appending.{sealed-part}
 use Rattle.seal.proofs.append.seal_from.Goals as goal

@@ -1,4 +1,4 @@
-use Rattle.std.proofs.Common.{◌≡◌, ◌-◌, length, take, sym, refl, ap, ◌∙◌, arith}
+use Rattle.std.proofs.Common.{◌≡◌, ◌-◌, length, take, ap, ◌∙◌, arith}
 use Rattle.seal.specs.Kind.{number_of}
 use Rattle.seal.specs.Lock.{sum}
 use Rattle.seal.proofs.Opening.{tried-shut, tried_open, fits-short, fits-compared, opens-again, opens-only}

@@ -1,4 +1,4 @@
-use Rattle.std.proofs.Common.{◌≡◌, sym, ap, ◌∙◌, subst, append-nil}
+use Rattle.std.proofs.Common.{sym, ap, ◌∙◌, subst, append-nil}
 use Rattle.hash.specs.Hmac.{inner, outer, masked}
 use Rattle.hash.specs.Hasher.{Holds}
 use Rattle.hash.proofs.keyed.Hmac.new.Goals as goal

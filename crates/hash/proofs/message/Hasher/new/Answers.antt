@@ -1,4 +1,4 @@
-use Rattle.std.proofs.Common.{[], sym, refl}
+use Rattle.std.proofs.Common.{refl}
 use Rattle.hash.specs.Sha256.{start, blocks}
 use Rattle.hash.proofs.message.Hasher.new.Goals as goal
 
