@@ -1,8 +1,8 @@
 -- Every town is orderly. Assumes nothing.
-use Rattle.std.proofs.Common.{◌≡◌, ℕ, ◌+◌, ◌-◌, ◌^◌, ◌<◌, ◌≤◌, Bool, true, false, cond, ◌&&◌, ◌||◌, eqb, ltb, leb, List, [], ◌∷◌, ◌++◌, length, Some, None, count_by, Option, sym, refl, ap, ◌∙◌, subst, ⊎_elim, arith, length-append, MatchOption}
+use Rattle.std.proofs.Common.{◌≡◌, ℕ, ◌+◌, ◌^◌, ◌<◌, ◌≤◌, Bool, true, false, cond, ◌||◌, eqb, ltb, leb, List, [], ◌∷◌, ◌++◌, length, Some, None, Option, sym, refl, ap, ◌∙◌, subst, ⊎_elim, arith, length-append}
 use Rattle.std.proofs.lemmas.List.Sums.{sum_by-cons, sum_by_push}
 use Rattle.std.proofs.lemmas.Bool.Decides.{nat_tests}
-use Rattle.std.proofs.lemmas.Bool.{eqb-true, eqb-false, ltb-true, ltb-false, leb-false, cond-true, cond-false, cond_both, cases_Bool, or_parts, and_parts}
+use Rattle.std.proofs.lemmas.Bool.{eqb-true, eqb-false, ltb-false, leb-false, cond_both, cases_Bool, or_parts}
 use Rattle.script.specs.declared.lines.Account.{Account}
 use Rattle.script.specs.declared.lines.Line.{Line}
 use Rattle.script.specs.declared.lines.Line.TheVariants as line
@@ -10,9 +10,9 @@ use Rattle.script.specs.declared.lines.Settings.{Settings}
 use Rattle.script.specs.declared.lines.Verb.{Verb}
 use Rattle.script.specs.declared.lines.Verb.TheVariants as verb
 use Rattle.script.specs.declared.town.Answer.TheVariants as answers
-use Rattle.words.specs.Text.{and_then, cut_at, decimal_of, principal_of, principal_then, key_of}
+use Rattle.words.specs.Text.{cut_at, decimal_of, principal_of, principal_then, key_of}
 use Rattle.script.specs.Grammar.{account_of, settings_of, verb_of, says_of, saying_of, silent, read_of}
-use Rattle.script.specs.Play.{Seen, Outcome, nobody, refused, there, known, opened, with_reader, with_service, ticked, begun, acted, obeyed, heard, in_range}
+use Rattle.script.specs.Play.{Seen, Outcome, nobody, there, known, opened, with_reader, with_service, ticked, begun, acted, heard, in_range}
 use Rattle.script.proofs.Ifs.{If, if-any, if-then}
 use Rattle.script.specs.Laws.{with_number, holders, Orderly, StaysOrderly, FaultsChangeNothing, TimeGoesOn, after, TownsAreOrderly}
 

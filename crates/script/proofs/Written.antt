@@ -1,22 +1,21 @@
 -- A line is read from the text that writes it, and from no other. Assumes nothing.
-use Rattle.std.proofs.Common.{◌≡◌, ℕ, ◌-◌, ◌^◌, ◌<◌, ◌≤◌, Bool, true, false, cond, eqb, ltb, List, [], ◌∷◌, ◌++◌, length, Some, None, codes, decimal, Option, sym, refl, ap, ◌∙◌, arith}
+use Rattle.std.proofs.Common.{◌≡◌, ℕ, ◌-◌, ◌^◌, ◌<◌, cond, eqb, ltb, List, ◌∷◌, ◌++◌, length, Some, None, codes, decimal, ap, ◌∙◌, arith}
 use Rattle.std.specs.Str.{bytes_eq}
 use Rattle.std.proofs.lemmas.Slice.Eq.{bytes_eq-Decides}
 use Rattle.std.proofs.lemmas.Bool.{ltb-false, cond_both}
-use Rattle.script.specs.declared.lines.Account.{Account}
 use Rattle.script.specs.declared.lines.Line.{Line}
 use Rattle.script.specs.declared.lines.Line.TheVariants as line
 use Rattle.script.specs.declared.lines.Settings.{Settings}
 use Rattle.script.specs.declared.lines.Verb.{Verb}
 use Rattle.script.specs.declared.lines.Verb.TheVariants as verb
 use Rattle.words.specs.Laws.{hex_text}
-use Rattle.words.specs.Text.{and_then, cut_at, decimal_of, principal_of, decimal_then, principal_then, key_of}
+use Rattle.words.specs.Text.{cut_at, decimal_of, principal_of, decimal_then, principal_then, key_of}
 use Rattle.words.proofs.Cuts.{cut-joins}
 use Rattle.words.proofs.Exact.{exact-decimal}
 use Rattle.words.proofs.Pairs.{keys-exact}
 use Rattle.script.specs.Grammar.{account_of, settings_of, verb_of, says_of, saying_of, silent, read_of}
 use Rattle.script.specs.Laws.{settings_text, account_text, line_text, Plain, LinesAreExact}
-use Rattle.script.proofs.Ifs.{If, if-any, if-then, if-each, if-is}
+use Rattle.script.proofs.Ifs.{If, if-then, if-each, if-is}
 
 cut-text : (s : List ℕ) → If (λ p. s ≡ p.0 ++ (32 ∷ p.1)) (cut_at 32 s)
 cut-text s = if-each (λ p. s ≡ p.0 ++ (32 ∷ p.1)) (cut_at 32 s) (λ p e. cut-joins 32 s p e)

@@ -2,7 +2,7 @@
 --   Seen         the town: its settings, none before the first line; the tick; who there is
 --   Outcome      what comes of a line: the town after it, and the answer
 --   heard s l    what comes of a line that reads as l; None is a line that can't be read
-use Rattle.std.specs.Prelude.{ℕ, ◌^◌, Bool, true, false, cond, ◌&&◌, ◌||◌, List, [], ◌∷◌, ◌++◌, length, Some, None, vec_items, Option, ◌==◌, nat_le, nat_lt}
+use Rattle.std.specs.Prelude.{ℕ, ◌^◌, Bool, false, cond, ◌&&◌, ◌||◌, List, [], ◌∷◌, ◌++◌, length, Some, None, vec_items, Option, ◌==◌, nat_le, nat_lt}
 use Rattle.script.specs.declared.lines.Account.{Account}
 use Rattle.script.specs.declared.lines.Line.{Line}
 use Rattle.script.specs.declared.lines.Line.TheVariants as line

@@ -1,9 +1,9 @@
 -- Bytes in hex: what is written is read back, and nothing else is. Assumes nothing.
-use Rattle.std.proofs.Common.{◌≡◌, ℕ, ◌*◌, ◌%◌, ◌<◌, Bool, true, false, not, ◌&&◌, eqb, List, [], ◌∷◌, length, Some, None, codes, sym, refl, ap, ◌∙◌, subst, ⊎_elim, arith}
+use Rattle.std.proofs.Common.{◌≡◌, ℕ, ◌%◌, Bool, true, false, not, ◌&&◌, eqb, List, [], ◌∷◌, length, Some, None, codes, sym, refl, ap, ◌∙◌, ⊎_elim, arith}
 use Rattle.std.specs.Str.{bytes_eq}
 use Rattle.std.proofs.lemmas.Slice.Eq.{bytes_eq-Decides}
 use Rattle.std.proofs.lemmas.Bool.{eqb-true, eqb-false, eq-eqb, ne_eqb, cases_Bool, and_from, and_parts}
-use Rattle.words.specs.Text.{hexes, all_hex, octets, paired, hex_of}
+use Rattle.words.specs.Text.{hexes, all_hex, octets, paired}
 use Rattle.words.specs.Laws.{hex_text, bytes_text, Octets, BytesReadBack, BytesAreExact}
 use Rattle.words.proofs.Pairs.{text-octets, octets-text, length-text, hexes-text}
 use Rattle.words.proofs.Scan.{hex-all, length-octets, hex_of-dash, hex_of-not, hex_of-paired, dash-alone}

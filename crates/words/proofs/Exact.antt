@@ -1,15 +1,15 @@
 -- Decimals: what is written is read back, and nothing else is. Assumes nothing.
-use Rattle.std.proofs.Common.{◌≡◌, ℕ, ◌+◌, ◌-◌, ◌*◌, ◌^◌, ◌<◌, ◌≤◌, min, Bool, true, false, cond, ◌&&◌, eqb, ltb, List, [], ◌∷◌, length, get_or, Some, None, decimal, sym, refl, ap, ◌∙◌, subst, ⊎_elim, arith, rules}
-use Rattle.std.specs.Str.Parse.{digits_value, AllDigits}
+use Rattle.std.proofs.Common.{◌≡◌, ℕ, ◌+◌, ◌-◌, ◌^◌, ◌<◌, min, true, false, ◌&&◌, eqb, ltb, List, [], ◌∷◌, length, get_or, Some, None, decimal, sym, refl, ap, ◌∙◌, ⊎_elim, arith}
+use Rattle.std.specs.Str.Parse.{digits_value}
 use Rattle.std.specs.Char.{is_ascii_digit}
 use Rattle.std.specs.List.{prefix_len}
 use Rattle.std.specs.Str.{all_ascii_digits}
 use Rattle.std.proofs.lemmas.Fmt.{decimal_digit, decimal_nonempty, first_decimal, digits_decimal, digits_value-decimal, decimal-digits_value}
 use Rattle.std.proofs.lemmas.Str.Parse.{IsNumeralModel, numerals_by_value, tells_all_ascii_digits}
-use Rattle.std.proofs.lemmas.Bool.{eq-eqb, ne_eqb, eqb-true, eqb-false, le-ltb, ltb-true, ltb-false, cond-true, cond-false, cases_Bool, cases_eq, and_left, and_right, and_from, and_parts, and_cases}
+use Rattle.std.proofs.lemmas.Bool.{ne_eqb, eqb-true, eqb-false, le-ltb, ltb-false, cond-true, cond-false, cases_Bool, cases_eq, and_left, and_right, and_from, and_parts, and_cases}
 use Rattle.words.specs.Text.{digits, number_of, decimal_of}
 use Rattle.words.specs.Laws.{DecimalsReadBack, DecimalsAreExact}
-use Rattle.words.proofs.Scan.{number-all, number-not}
+use Rattle.words.proofs.Scan.{number-all}
 
 own : IsNumeralModel (λ s. all_ascii_digits s ≡ true) (digits_value 10)
 own = numerals_by_value _ tells_all_ascii_digits

@@ -1,10 +1,9 @@
 -- Hex: what is written is read back, and nothing else is. Assumes nothing.
-use Rattle.std.proofs.Common.{◌≡◌, ℕ, zero, suc, ◌+◌, ◌-◌, ◌*◌, ◌/◌, ◌%◌, ◌<◌, ◌≤◌, Bool, true, false, cond, ◌&&◌, eqb, ltb, leb, List, [], ◌∷◌, map, length, get_or, is_some, Some, None, unwrap_or, sym, refl, ap, ◌∙◌, ⊎_elim, arith}
+use Rattle.std.proofs.Common.{◌≡◌, ℕ, zero, suc, ◌+◌, ◌*◌, ◌/◌, ◌%◌, ◌<◌, true, false, ◌&&◌, eqb, List, [], ◌∷◌, map, length, get_or, is_some, Some, unwrap_or, sym, refl, ap, ◌∙◌, ⊎_elim, arith}
 use Rattle.std.specs.List.{range_with_len}
 use Rattle.std.proofs.lemmas.Bool.{eq-eqb, eqb-true, cond-true, cond-false, cases_Bool, and_from, and_parts}
 use Rattle.std.proofs.lemmas.Bool.Decides.{nat_tests}
-use Rattle.words.specs.declared.Key.{Key}
-use Rattle.words.specs.Text.{nibble_of, hexes, all_hex, octet_of, octet_at, octets, key_of}
+use Rattle.words.specs.Text.{nibble_of, hexes, all_hex, octet_of, octet_at, octets}
 use Rattle.words.specs.Laws.{digit_of, hex_text, Octets, KeysReadBack, KeysAreExact}
 
 nibble-digit : (n : ℕ) → n < 16 → nibble_of (digit_of n) ≡ Some n

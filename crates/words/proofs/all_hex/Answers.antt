@@ -1,4 +1,4 @@
-use Rattle.std.proofs.Common.{◌≡◌, is_some, sym, ap, ◌∙◌, arith}
+use Rattle.std.proofs.Common.{is_some, sym, ap, ◌∙◌, arith}
 use Rattle.words.proofs.Scan.{hexes-here, hexes-on, hexes-end, hex-all, hex-not}
 use Rattle.words.proofs.all_hex.Goals as goal
 

@@ -1,6 +1,6 @@
-use Rattle.std.proofs.Common.{◌≡◌, ℕ, List, [], ◌++◌, length, drop, Some, None, Option, sym, ap, ◌∙◌, arith}
+use Rattle.std.proofs.Common.{ℕ, [], ◌++◌, length, drop, Some, sym, ap, ◌∙◌, arith}
 use Rattle.std.specs.Option.{option_map}
-use Rattle.words.specs.Text.{octets, fitting, put_front}
+use Rattle.words.specs.Text.{octets, put_front}
 use Rattle.words.proofs.Scan.{length-octets, hex_of-dash, hex_of-not, hex_of-paired, fitting-none, fitting-long, fitting-some}
 use Rattle.words.proofs.hex.Goals as goal
 

@@ -1,4 +1,4 @@
-use Rattle.std.proofs.Common.{◌≡◌, ◌/◌, length, sym, ap, ◌∙◌, arith, take_at}
+use Rattle.std.proofs.Common.{◌≡◌, ◌/◌, length, sym, ap, ◌∙◌, take_at}
 use Rattle.words.specs.Text.{octets}
 use Rattle.words.proofs.Scan.{length-octets, bytes_of-not, bytes_of-paired, fills}
 use Rattle.words.proofs.hex_bytes.Goals as goal

@@ -1,4 +1,4 @@
-use Rattle.std.proofs.Common.{◌≡◌, [], Some, unwrap_or, sym, ap, ◌∙◌}
+use Rattle.std.proofs.Common.{[], sym}
 use Rattle.words.specs.Text.{octets}
 use Rattle.words.proofs.Scan.{hex_of-dash, hex_of-not, hex_of-paired, bytes_of-some}
 use Rattle.words.proofs.hex_word.Goals as goal

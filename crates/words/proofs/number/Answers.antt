@@ -1,10 +1,7 @@
-use Rattle.std.proofs.Common.{◌≡◌, ◌+◌, ◌-◌, ◌*◌, ◌<◌, length, get_or, take, sym, refl, ap, ◌∙◌, arith, rules}
-use Rattle.std.specs.Str.Parse.{digits_value}
-use Rattle.std.specs.Char.{digit_value}
+use Rattle.std.proofs.Common.{get_or, sym, arith}
 use Rattle.std.proofs.lemmas.Int.Digits.{digits_value_more}
 use Rattle.std.proofs.lemmas.List.{take_all}
-use Rattle.words.specs.Text.{digits}
-use Rattle.words.proofs.Scan.{digits-here, digits-on, digits-end, digit_value-is, capped-more, number-all, number-not}
+use Rattle.words.proofs.Scan.{digits-here, digits-on, digits-end, digit_value-is, number-all, number-not}
 use Rattle.words.proofs.number.Goals as goal
 
 pub returns-then-not-is_ascii_digit : goal.returns-then-not-is_ascii_digit

@@ -1,4 +1,4 @@
-use Rattle.std.proofs.Common.{◌≡◌, ◌/◌, length, sym, refl, ap, ◌∙◌, arith}
+use Rattle.std.proofs.Common.{◌≡◌, ◌/◌, length, arith}
 use Rattle.words.specs.Text.{octets}
 use Rattle.words.proofs.Scan.{octets-more}
 use Rattle.words.proofs.put_octets.Goals as goal
