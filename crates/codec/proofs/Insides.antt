@@ -1,17 +1,17 @@
 -- The five insides: read and written are each other's inverse.
-use Rattle.std.proofs.Common.{◌≡◌, ℕ, ◌+◌, ◌^◌, ◌<◌, ◌≤◌, Bool, true, false, cond, eqb, leb, List, [], ◌∷◌, ◌++◌, length, take, drop, Ok, Err, Result, sym, refl, ap, ◌∙◌, subst, arith}
+use Rattle.std.proofs.Common.{◌≡◌, ℕ, ◌+◌, Bool, true, false, cond, eqb, leb, List, [], ◌∷◌, ◌++◌, length, take, drop, Ok, Err, sym, refl, ap, ◌∙◌, subst, arith}
 use Rattle.parts.specs.declared.fault.Fault.{Fault}
 use Rattle.parts.specs.declared.fault.Fault.TheVariants.{BadInside}
 use Rattle.parts.specs.declared.word.Letter.{Letter}
 use Rattle.parts.specs.declared.word.Login.{Login}
 use Rattle.parts.specs.declared.word.Receipt.{Receipt}
 use Rattle.parts.specs.declared.word.Ticket.{Ticket}
-use Rattle.std.proofs.lemmas.List.{append-nil, drop_at, drop-drop, length-append, take_all, take_at}
+use Rattle.std.proofs.lemmas.List.{drop_at, drop-drop, length-append, take_all, take_at}
 use Rattle.std.proofs.lemmas.Bool.{cond-true, eq-eqb, eqb-true, false≢true, le-leb, leb-true}
 use Rattle.contents.specs.Field.{bytes_of, number, part, Bytes}
 use Rattle.contents.specs.Inside.{Asked, begins, is_asking, is_inside, key_of, number_of, what_length, write_asking, write_letter, write_login, write_receipt, write_ticket}
 use Rattle.codec.specs.Law.{Codec, AskingCodec, AskingFits, LetterCodec, LetterFits, LoginCodec, LoginFits, ReceiptCodec, ReceiptFits, TicketCodec, TicketFits}
-use Rattle.codec.proofs.Numbers.{length-bytes_of, length_part, number-bytes_of, number-last, number-part-lt, number-rest, part-last, part-rest}
+use Rattle.codec.proofs.Numbers.{length_part, number-bytes_of, number-last, number-part-lt, number-rest, part-last, part-rest}
 
 -- both tests came out true
 pub both : (a b : Bool) → cond a b false ≡ true → (a ≡ true) × (b ≡ true)

@@ -2,7 +2,7 @@
 use Rattle.std.proofs.Common.{◌≡◌, ℕ, zero, suc, ◌+◌, ◌*◌, ◌/◌, ◌%◌, ◌^◌, ◌<◌, ◌≤◌, List, [], ◌∷◌, ◌++◌, length, get_or, take, drop, sym, refl, ap, ◌∙◌, mod-eq_of_lt, mul_assoc, arith}
 use lib.Arith.{digits_div, digits_lt, mod-mul}
 use native.Mathlib.Nat.{mod-one, mul-add-div_right, mul-add-mod_self_right, one-le-pow, pow-succ'}
-use Rattle.std.proofs.lemmas.List.{append-nil, drop-drop, length-drop, length-take-le, take-append-drop, take_all}
+use Rattle.std.proofs.lemmas.List.{drop-drop, length-drop, length-take-le, take-append-drop, take_all}
 use Rattle.contents.specs.Field.{bytes_of, number, part, Bytes}
 
 -- each power of 256 is above 0

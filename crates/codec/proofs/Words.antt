@@ -1,16 +1,16 @@
 -- The five words: read and written are each other's inverse, and none is the front of another.
-use Rattle.std.proofs.Common.{◌≡◌, ℕ, ◌+◌, ◌^◌, ◌<◌, ◌≤◌, Bool, true, false, cond, eqb, leb, ◌⊎◌, List, [], ◌∷◌, ◌++◌, length, take, drop, Some, None, Ok, Err, Option, Result, sym, refl, ap, ◌∙◌, subst, inl, inr, arith}
+use Rattle.std.proofs.Common.{◌≡◌, ℕ, ◌+◌, ◌<◌, ◌≤◌, Bool, true, false, cond, eqb, leb, ◌⊎◌, List, [], ◌∷◌, ◌++◌, length, take, drop, Some, None, Ok, Err, Option, sym, refl, ap, ◌∙◌, subst, inl, inr, arith}
 use Rattle.std.specs.Option.{option_map, ok_or as okOr}
 use Rattle.parts.specs.Fault.{class_number}
 use Rattle.parts.specs.declared.fault.Class.{Class}
 use Rattle.parts.specs.declared.fault.Class.TheVariants.{NotReadable, NotNow, NotYou}
 use Rattle.parts.specs.declared.fault.Fault.{Fault}
 use Rattle.parts.specs.declared.fault.Fault.TheVariants.{Malformed}
-use Rattle.std.proofs.lemmas.List.{append_assoc, append-nil, drop-append-le, drop_at, drop-drop, length-append, length-drop, nil_from_length, take-append-drop, take-append-le, take_at}
-use Rattle.std.proofs.lemmas.Bool.{cond-false, cond-true, eq-eqb, eqb-true, false≢true, le-leb, leb-true, ne_eqb}
+use Rattle.std.proofs.lemmas.List.{append-nil, drop-append-le, drop_at, drop-drop, length-append, length-drop, nil_from_length, take-append-drop, take-append-le, take_at}
+use Rattle.std.proofs.lemmas.Bool.{cond-false, cond-true, eqb-true, le-leb, leb-true, ne_eqb}
 use Rattle.contents.specs.Field.{bytes_of, number, part, Bytes}
-use Rattle.codec.specs.Law.{Codec, ReaderFits, WordCodec, WordCut, WordFits, WordLonger}
-use Rattle.wire.specs.Word.{Frame, login, ticket_and_letter, asking, receipt, refusal, alone, asking_from, class_from, cut, fits, frame_from, framed, grant_from, lock_bytes, lock_fits, lock_length, login_from, paired, receipt_from, refusal_from, write_word}
+use Rattle.codec.specs.Law.{WordCodec, WordCut, WordFits, WordLonger}
+use Rattle.wire.specs.Word.{Frame, login, ticket_and_letter, asking, receipt, refusal, alone, asking_from, class_from, cut, frame_from, framed, grant_from, lock_bytes, lock_fits, lock_length, login_from, paired, receipt_from, refusal_from, write_word}
 use Rattle.codec.proofs.Insides.{both, cond-both-true}
 use Rattle.codec.proofs.Numbers.{bytes_drop, length_part, number-bytes_of, number-part-lt, number-rest, part-rest}
 

@@ -3,7 +3,7 @@
 --   framed bs     the word that bs are, or the fault
 --   write_word f   the bytes of a word
 --   fits f        each lock has 32 to 65,535 bytes
-use Rattle.std.specs.Prelude.{◌≡◌, ℕ, ◌+◌, ◌<◌, Bool, true, false, cond, List, [], ◌∷◌, ◌++◌, length, drop, Some, None, Ok, Err, vec_items, Option, Result, Vec, ◌==◌, nat_le}
+use Rattle.std.specs.Prelude.{◌≡◌, ℕ, ◌+◌, Bool, true, false, cond, List, [], ◌∷◌, ◌++◌, length, drop, Some, None, Ok, Err, vec_items, Option, Result, Vec, ◌==◌, nat_le}
 use Rattle.std.specs.Option.{option_map, ok_or}
 use Rattle.parts.specs.Fault.{class_number}
 use Rattle.parts.specs.declared.fault.Class.{Class}

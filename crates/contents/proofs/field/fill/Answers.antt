@@ -1,4 +1,4 @@
-use Rattle.std.proofs.Common.{◌≡◌, ◌+◌, ◌^◌, ◌<◌, ◌≤◌, [], length, get_or, take, sym, ap, ◌∙◌, arith, rules}
+use Rattle.std.proofs.Common.{◌≡◌, [], length, take, sym, ap, ◌∙◌, arith, rules}
 use Rattle.std.specs.List.{flat_map}
 use Rattle.std.proofs.lemmas.List.{take_all}
 use Rattle.contents.proofs.Row.{room, turn}
@@ -8,21 +8,21 @@ pub put-requires : goal.put-requires
 put-requires c =
     let fields = c.args.fields.now in
     let enough =
-    room now fields c.loop-field.field-index record { ref_ptr = (0, 0); now = [] } c.loop-field.at
+    room (λ x. x.now) fields c.loop-field.field-index record { ref_ptr = (0, 0); now = [] } c.loop-field.at
     c.loop-field-test.true c.loop-field.invariant.0 in
     omega (arith, c.requires, c.loop-field.auto.out)
 
-pub overflow-add-at : goal.overflow-add-at
-overflow-add-at c =
+pub overflow_add-at : goal.overflow_add-at
+overflow_add-at c =
     let fields = c.args.fields.now in
     let enough =
-    room now fields c.loop-field.field-index record { ref_ptr = (0, 0); now = [] } c.loop-field.at
+    room (λ x. x.now) fields c.loop-field.field-index record { ref_ptr = (0, 0); now = [] } c.loop-field.at
     c.loop-field-test.true c.loop-field.invariant.0 in
     search rules
 
 pub loop-field-preserved : goal.loop-field-preserved
 loop-field-preserved c =
-    turn now c.args.fields.now c.loop-field.field-index record { ref_ptr = (0, 0); now = [] }
+    turn (λ x. x.now) c.args.fields.now c.loop-field.field-index record { ref_ptr = (0, 0); now = [] }
     c.loop-field.at c.loop-field.out c.put.new.out c.loop-field-test.true c.loop-field.invariant.0
     c.loop-field.invariant.1 c.put.ensures
 
