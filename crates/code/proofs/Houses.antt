@@ -1,17 +1,16 @@
 -- The decisions of the house are what the house must be. Assumes nothing.
-use Rattle.std.proofs.Common.{◌≡◌, ℕ, ◌+◌, ◌<◌, ◌≤◌, Bool, true, false, cond, not, ◌&&◌, ◌||◌, eqb, ltb, List, [], ◌∷◌, length, get_or, drop, set, Some, None, Option, sym, refl, ap, ◌∙◌, arith}
+use Rattle.std.proofs.Common.{◌≡◌, ℕ, ◌<◌, Bool, true, false, cond, not, ◌&&◌, ◌||◌, eqb, ltb, List, length, Some, None, Option, sym, refl, ap, ◌∙◌, arith}
 use Rattle.code.proofs.Serves.{clear, not'}
-use Rattle.code.specs.Code.{Free, HouseSo, MayGrant, MayLogIn}
-use Rattle.code.specs.Sides.{HouseStands, KeptHome, home_of, home_view, house, with-accounts}
+use Rattle.code.specs.Code.{MayGrant, MayLogIn}
+use Rattle.code.specs.Sides.{HouseStands, KeptHome, home_of, home_view, with-accounts}
 use Rattle.house_rules.proofs.Decided.{told}
 use Rattle.house_rules.specs.Account.{account_of, closed, is_closed, unknown}
-use Rattle.house_rules.specs.Change.{changed, closed_of, shut, shut_after, shut_from, written}
+use Rattle.house_rules.specs.Change.{changed, closed_of, shut, shut_after, shut_from}
 use Rattle.house_rules.specs.Give.{giving}
-use Rattle.house_rules.specs.House.{Home, after, answered, asked_given, conditions, drew, for_house, granted, logged_in, login_after, login_conditions, login_given, missing, misled, noted, readable, refusal, until_of, wanted}
+use Rattle.house_rules.specs.House.{Home, after, answered, asked_given, conditions, drew, for_house, granted, logged_in, login_conditions, login_given, missing, misled, noted, readable, refusal, until_of, wanted}
 use Rattle.house_rules.specs.declared.change.Changed.{Changed}
 use Rattle.house_rules.specs.declared.change.Changed.TheVariants.{Done, Refused as Unchanged, Same}
-use Rattle.house_rules.specs.declared.reply.Reply.{Reply}
-use Rattle.house_rules.specs.declared.reply.Reply.TheVariants.{Granted, Refused}
+use Rattle.house_rules.specs.declared.reply.Reply.TheVariants.{Refused}
 use Rattle.parts.proofs.Conditions.{first_fault-nil, passed}
 use Rattle.parts.specs.Condition.{first_fault, unless}
 use Rattle.parts.specs.declared.account.Account.{Account}
@@ -19,13 +18,11 @@ use Rattle.parts.specs.declared.account.Account.TheVariants.{Absent, Closed, Ope
 use Rattle.parts.specs.declared.fault.Fault.{Fault}
 use Rattle.parts.specs.declared.fault.Fault.TheVariants.{AccountClosed, BadInside, DoneBefore, NoDrawnBytes, NoRoom, NotLately, NotNow, TicketOver, Unknown, WrongService}
 use Rattle.parts.specs.declared.word.Asking.{Asking}
-use Rattle.parts.specs.declared.word.Key.{Key}
 use Rattle.parts.specs.declared.word.Login.{Login}
 use Rattle.parts.specs.declared.word.Ticket.{Ticket}
-use Rattle.service_rules.specs.Memory.{recorded}
 use Rattle.service_rules.specs.Service.{nobody}
 use Rattle.std.proofs.lemmas.List.{get_or-set_other, get_or-set_same}
-use Rattle.std.proofs.lemmas.Bool.{and_from, and_parts, both_ways, eq-eqb, eqb-true, le-ltb, leb-false, lt-leb, ltb-false, not-false, or_from, or_parts, or_right}
+use Rattle.std.proofs.lemmas.Bool.{both_ways, eq-eqb, eqb-true, le-ltb, leb-false, lt-leb, ltb-false, not-false, or_from, or_parts, or_right}
 
 -- Logins
 

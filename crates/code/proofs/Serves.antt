@@ -1,19 +1,17 @@
 -- The decisions of a service are what a service must be. Assumes nothing.
-use Rattle.std.proofs.Common.{◌≡◌, ℕ, ◌+◌, ◌<◌, ◌≤◌, Bool, true, false, cond, not, ◌&&◌, ◌||◌, eqb, ltb, List, [], ◌∷◌, length, drop, Some, None, Ok, Err, Option, Result, sym, refl, ap, ◌∙◌, arith}
-use Rattle.code.specs.Code.{Free, MayDo, ServiceSo}
-use Rattle.code.specs.Sides.{Kept, ServiceStands, fallen, kept_of, kept_view, refit, service, side_of}
+use Rattle.std.proofs.Common.{◌≡◌, ℕ, ◌+◌, Bool, true, false, cond, not, ◌&&◌, ◌||◌, eqb, ltb, List, ◌∷◌, drop, Some, None, Ok, Err, Option, Result, sym, refl, ap, ◌∙◌, arith}
+use Rattle.code.specs.Code.{MayDo}
+use Rattle.code.specs.Sides.{Kept, ServiceStands, fallen, kept_of, kept_view, refit}
 use Rattle.parts.proofs.Conditions.{first_fault-cons, first_fault-nil, lowest-first, passed}
-use Rattle.parts.specs.Condition.{Lowest, first_fault, row, unless}
-use Rattle.parts.specs.declared.account.Entry.{Entry}
+use Rattle.parts.specs.Condition.{first_fault, row, unless}
 use Rattle.parts.specs.declared.condition.Condition.{Condition}
 use Rattle.parts.specs.declared.fault.Fault.{Fault}
 use Rattle.parts.specs.declared.fault.Fault.TheVariants.{DoneBefore, NoDrawnBytes, NoRoom, NotLately, NotNow, OutOfRange, TicketOver, Unknown, WrongService}
 use Rattle.parts.specs.declared.word.Asking.{Asking}
 use Rattle.parts.specs.declared.word.Ticket.{Ticket}
 use Rattle.service_rules.specs.Memory.{recorded}
-use Rattle.service_rules.specs.Service.{View, after, answered, conditions, deed_of, done_by, nobody, receipt_of, refusal}
-use Rattle.service_rules.specs.Side.{begun, started, unfit}
-use Rattle.service_rules.specs.declared.answer.Answer.{Answer}
+use Rattle.service_rules.specs.Service.{View, after, conditions, deed_of, done_by, nobody, receipt_of, refusal}
+use Rattle.service_rules.specs.Side.{begun, unfit}
 use Rattle.service_rules.specs.declared.answer.Answer.TheVariants.{Done, Refused}
 use Rattle.service_rules.specs.declared.side.Side.{Side}
 use Rattle.std.proofs.lemmas.Bool.{and_from, and_parts, eq-eqb, eqb-true, le-ltb, leb-false, lt-leb, ltb-false, not-false}

@@ -4,7 +4,7 @@
 -- MayDo, MayLogIn, MayGrant   all that has to hold for a deed, a login, an asking of the house
 -- Service, ServiceSo         what a service has, and what has to hold of it
 -- House, HouseSo             what the house has, and what has to hold of it
-use Rattle.std.specs.Prelude.{◌≡◌, ℕ, ◌+◌, ◌<◌, ◌≤◌, Bool, true, false, cond, not, ◌&&◌, ◌||◌, List, [], length, drop, Some, None, ◌≢◌, nat_eq, nat_lt}
+use Rattle.std.specs.Prelude.{◌≡◌, ℕ, ◌+◌, ◌<◌, ◌≤◌, Bool, true, false, ◌&&◌, ◌||◌, List, length, drop, Some, None, ◌≢◌, nat_eq, nat_lt}
 use Rattle.house_rules.specs.Account.{account_of, closed, own_key, unknown}
 use Rattle.house_rules.specs.Give.{giving}
 use Rattle.house_rules.specs.House.{refusal as denial, wanted}

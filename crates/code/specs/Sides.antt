@@ -4,23 +4,16 @@
 -- KeptHome, home_view   the house likewise
 -- ServiceStands        the definitions that the contracts of a service name are such a service
 -- HouseStands          and those of the house such a house
-use Rattle.std.specs.Prelude.{◌≡◌, ℕ, ◌<◌, ◌≤◌, Bool, false, ◌||◌, List, Ok, Err, Result, nat_lt}
+use Rattle.std.specs.Prelude.{ℕ, Bool, false, ◌||◌, List, Ok, Err, Result, nat_lt}
 use Rattle.code.specs.Code.{House, HouseSo, Service, ServiceSo}
 use Rattle.house_rules.specs.Change.{shut, shut_after}
 use Rattle.house_rules.specs.House.{Home, after as granted, answered as grants, logged_in, login_after}
-use Rattle.house_rules.specs.declared.change.Changed.{Changed}
-use Rattle.house_rules.specs.declared.reply.Reply.{Reply}
 use Rattle.parts.specs.declared.account.Account.{Account}
 use Rattle.parts.specs.declared.account.Entry.{Entry}
-use Rattle.parts.specs.declared.condition.Condition.{Condition}
 use Rattle.parts.specs.declared.fault.Fault.{Fault}
-use Rattle.parts.specs.declared.word.Asking.{Asking}
 use Rattle.parts.specs.declared.word.Key.{Key}
-use Rattle.parts.specs.declared.word.Login.{Login}
-use Rattle.parts.specs.declared.word.Ticket.{Ticket}
 use Rattle.service_rules.specs.Service.{View, after, answered, conditions, view}
-use Rattle.service_rules.specs.Side.{started, waiting}
-use Rattle.service_rules.specs.declared.answer.Answer.{Answer}
+use Rattle.service_rules.specs.Side.{started}
 use Rattle.service_rules.specs.declared.side.Side.{Side}
 
 -- a service: its tick and until when it waits, what it remembers, junk, drawn bytes left

@@ -1,5 +1,5 @@
 -- One entry more, for loops over what is remembered. Assumes nothing.
-use Rattle.std.proofs.Common.{◌≡◌, ℕ, ◌+◌, ◌<◌, max, Bool, true, false, cond, ◌&&◌, ◌||◌, eqb, List, [], ◌∷◌, length, get_or, drop, refl, ap, ◌∙◌, arith}
+use Rattle.std.proofs.Common.{◌≡◌, ℕ, ◌+◌, ◌<◌, max, Bool, true, false, cond, ◌&&◌, ◌||◌, eqb, List, ◌∷◌, length, get_or, drop, refl, ap, ◌∙◌, arith}
 use Rattle.parts.specs.Tick.{live}
 use Rattle.parts.specs.declared.account.Entry.{Entry}
 use Rattle.service_rules.specs.Memory.{highest, live_of, stands}

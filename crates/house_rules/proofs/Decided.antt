@@ -1,14 +1,14 @@
 -- What is answered and left, by what was found wrong. Assumes nothing.
-use Rattle.std.proofs.Common.{◌≡◌, ℕ, ◌+◌, ◌<◌, ◌≤◌, Bool, true, false, cond, not, ◌&&◌, List, [], ◌∷◌, length, drop, Some, None, Option, sym, refl, ap, ◌∙◌}
+use Rattle.std.proofs.Common.{◌≡◌, ℕ, ◌+◌, ◌<◌, ◌≤◌, Bool, true, false, cond, not, ◌&&◌, List, length, drop, Some, None, Option, sym, refl, ap, ◌∙◌}
 use Rattle.house_rules.specs.Account.{own_key}
 use Rattle.house_rules.specs.Give.{giving}
-use Rattle.house_rules.specs.House.{Decides, Home, LogsIn, after, answered, asked_given, conditions, drew, granted, home, judged, logged_in, login_after, login_conditions, login_given, login_judged, noted, readable, refusal, until_of, wanted}
+use Rattle.house_rules.specs.House.{Decides, Home, LogsIn, asked_given, conditions, drew, granted, home, judged, logged_in, login_after, login_conditions, login_given, login_judged, noted, readable, refusal, until_of, wanted}
 use Rattle.house_rules.specs.declared.give.Given.{Given}
 use Rattle.house_rules.specs.declared.house.House.{House}
 use Rattle.house_rules.specs.declared.reply.Reply.{Reply}
-use Rattle.house_rules.specs.declared.reply.Reply.TheVariants.{Granted, Refused}
+use Rattle.house_rules.specs.declared.reply.Reply.TheVariants.{Refused}
 use Rattle.parts.proofs.Conditions.{first_fault-cons, first_fault-last-none, first_fault-last-some, first_fault-nil, lowest-first, passed}
-use Rattle.parts.specs.Condition.{Lowest, first_fault, row, unless}
+use Rattle.parts.specs.Condition.{Lowest, first_fault, unless}
 use Rattle.parts.specs.declared.account.Account.{Account}
 use Rattle.parts.specs.declared.account.Entry.{Entry}
 use Rattle.parts.specs.declared.fault.Fault.{Fault}

@@ -29,7 +29,7 @@ fn wanted_of(asking: &Asking) -> u16
 
 // Is a service asked for that isn't there?
 fn is_missing<A: Accounts>(accounts: &A, asking: &Asking) -> bool
-    ensures { result ≡ missing (listed accounts.now) asking.now }
+    ensures { result ≡ missing (A.listed accounts.now) asking.now }
 {
     let service = wanted_of(asking);
     asking.service == 0 && (service != 0 && is_unknown(accounts, service))
@@ -53,7 +53,7 @@ impl House {
         asking: &Asking,
         digest: u128,
     ) -> Option<Fault>
-        ensures { result ≡ first_fault (judged self.now.side (listed accounts.now) (kept memory.now) (left drawn.now) ticket asking.now digest) }
+        ensures { result ≡ first_fault (judged self.now.side (A.listed accounts.now) (M.kept memory.now) (D.left drawn.now) ticket asking.now digest) }
     {
         let Side { lag, now, .. } = self.side;
         let unknown = is_unknown(accounts, ticket.reader) || is_missing(accounts, asking);
@@ -82,9 +82,9 @@ impl House {
         digest: u128,
     ) -> Reply
         ensures decides { Decides
-            (home self.now (listed accounts.now) (kept memory.old) (junk memory.old) (M.Memory.writes memory.new) (left drawn.old))
+            (home self.now (A.listed accounts.now) (M.kept memory.old) (M.junk memory.old) (M.Memory.writes memory.new) (D.left drawn.old))
             ticket asking.now digest result
-            (home self.now (listed accounts.now) (kept memory.new) (junk memory.new) (M.Memory.writes memory.new) (left drawn.new)) }
+            (home self.now (A.listed accounts.now) (M.kept memory.new) (M.junk memory.new) (M.Memory.writes memory.new) (D.left drawn.new)) }
         ensures keeps { M.Memory.keeps memory.old memory.new }
     {
         if !is_readable(asking) {

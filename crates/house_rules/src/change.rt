@@ -16,9 +16,9 @@ pub enum Changed {
 
 // Opens an account with an own key. One that is there, open or closed, stays as it is.
 pub fn open_account<A: Accounts>(accounts: &mut A, number: u16, key: Key) -> Changed
-    ensures answer { result ≡ opened (listed accounts.old) number (writes accounts.new) }
-    ensures after { listed accounts.new ≡ opened_after (listed accounts.old) number key (writes accounts.new) }
-    ensures keeps { keeps accounts.old accounts.new }
+    ensures answer { result ≡ opened (A.listed accounts.old) number (A.writes accounts.new) }
+    ensures after { A.listed accounts.new ≡ opened_after (A.listed accounts.old) number key (A.writes accounts.new) }
+    ensures keeps { A.keeps accounts.old accounts.new }
 {
     if is_nobody(number) {
         return Changed::Refused(Fault::Unknown);
@@ -31,9 +31,9 @@ pub fn open_account<A: Accounts>(accounts: &mut A, number: u16, key: Key) -> Cha
 
 // Closes an account for good.
 pub fn close_account<A: Accounts>(accounts: &mut A, number: u16) -> Changed
-    ensures answer { result ≡ shut (listed accounts.old) number (writes accounts.new) }
-    ensures after { listed accounts.new ≡ shut_after (listed accounts.old) number (writes accounts.new) }
-    ensures keeps { keeps accounts.old accounts.new }
+    ensures answer { result ≡ shut (A.listed accounts.old) number (A.writes accounts.new) }
+    ensures after { A.listed accounts.new ≡ shut_after (A.listed accounts.old) number (A.writes accounts.new) }
+    ensures keeps { A.keeps accounts.old accounts.new }
 {
     if is_nobody(number) {
         return Changed::Refused(Fault::Unknown);
@@ -48,9 +48,9 @@ pub fn close_account<A: Accounts>(accounts: &mut A, number: u16) -> Changed
 // Writes a change, which counts when the device has it.
 fn write<A: Accounts>(accounts: &mut A, number: u16, account: Account) -> Changed
     requires { number < 1024 }
-    ensures answer { result ≡ written (writes accounts.new) }
-    ensures after { listed accounts.new ≡ changed (listed accounts.old) number account (written (writes accounts.new)) }
-    ensures keeps { keeps accounts.old accounts.new }
+    ensures answer { result ≡ written (A.writes accounts.new) }
+    ensures after { A.listed accounts.new ≡ changed (A.listed accounts.old) number account (written (A.writes accounts.new)) }
+    ensures keeps { A.keeps accounts.old accounts.new }
 {
     if accounts.set(number, account) {
         Changed::Done

@@ -17,9 +17,9 @@ pub struct Fresh {
 
 // Uses up the next 64 bytes.
 pub(crate) fn draw<D: Drawn>(drawn: &mut D) -> Fresh
-    requires { 64 ≤ length (left drawn.old) }
-    ensures value { result ≡ fresh_of (left drawn.old) }
-    ensures rest { left drawn.new ≡ drop 64 (left drawn.old) }
+    requires { 64 ≤ length (D.left drawn.old) }
+    ensures value { result ≡ fresh_of (D.left drawn.old) }
+    ensures rest { D.left drawn.new ≡ drop 64 (D.left drawn.old) }
 {
     let key = Key(drawn.take_32());
     let ticket = Salt(drawn.take_16());

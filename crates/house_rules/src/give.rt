@@ -22,9 +22,9 @@ pub struct Given {
 impl House {
     // Draws a key, and gives it in a ticket and in a letter.
     pub(crate) fn give<D: Drawn>(&self, drawn: &mut D, given: Given) -> Reply
-        requires { 64 ≤ length (left drawn.old) }
-        ensures value { result ≡ giving (self.now.side.now + self.now.life) (left drawn.old) given }
-        ensures rest { left drawn.new ≡ drop 64 (left drawn.old) }
+        requires { 64 ≤ length (D.left drawn.old) }
+        ensures value { result ≡ giving (self.now.side.now + self.now.life) (D.left drawn.old) given }
+        ensures rest { D.left drawn.new ≡ drop 64 (D.left drawn.old) }
     {
         let until = self.side.now + self.life as u64;
         let fresh = draw(drawn);

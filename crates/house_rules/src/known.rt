@@ -8,7 +8,7 @@ use service_rules::is_nobody;
 
 // Has nobody an account with this number?
 pub fn is_unknown<A: Accounts>(accounts: &A, number: u16) -> bool
-    ensures { result ≡ unknown (listed accounts.now) number }
+    ensures { result ≡ unknown (A.listed accounts.now) number }
 {
     is_nobody(number) || absent(accounts.account(number))
 }
@@ -24,7 +24,7 @@ fn absent(account: Account) -> bool
 
 // Is the account closed?
 pub fn is_closed<A: Accounts>(accounts: &A, number: u16) -> bool
-    ensures { result ≡ closed (listed accounts.now) number }
+    ensures { result ≡ closed (A.listed accounts.now) number }
 {
     match accounts.account(number) {
         Account::Absent | Account::Open(_) => false,
@@ -34,7 +34,7 @@ pub fn is_closed<A: Accounts>(accounts: &A, number: u16) -> bool
 
 // The own key; zeros where there is no account.
 pub fn own_key<A: Accounts>(accounts: &A, number: u16) -> Key
-    ensures { result ≡ own_key (listed accounts.now) number }
+    ensures { result ≡ own_key (A.listed accounts.now) number }
 {
     match accounts.account(number) {
         Account::Absent => Key([0; 32]),

@@ -21,7 +21,7 @@ impl House {
         reader: u16,
         login: Login,
     ) -> Option<Fault>
-        ensures { result ≡ first_fault (login_judged self.now.side (listed accounts.now) (left drawn.now) reader login) }
+        ensures { result ≡ first_fault (login_judged self.now.side (A.listed accounts.now) (D.left drawn.now) reader login) }
     {
         lowest(&[
             check(Fault::Unknown, is_unknown(accounts, reader)),
@@ -45,9 +45,9 @@ impl House {
         login: Login,
     ) -> Reply
         ensures { (es : List Entry) (j w : Bool) → LogsIn
-            (home self.now (listed accounts.now) es j w (left drawn.old))
+            (home self.now (A.listed accounts.now) es j w (D.left drawn.old))
             reader login result
-            (home self.now (listed accounts.now) es j w (left drawn.new)) }
+            (home self.now (A.listed accounts.now) es j w (D.left drawn.new)) }
     {
         if let Some(fault) = self.judge_login(accounts, drawn, reader, login) {
             return Reply::Refused(fault);

@@ -17,7 +17,7 @@ impl House {
         key: Key,
         memory: &M,
     ) -> Result<House, Fault>
-        ensures { settled_of result ≡ started_house life lag tick key (kept memory.now) (junk memory.now) }
+        ensures { settled_of result ≡ started_house life lag tick key (M.kept memory.now) (M.junk memory.now) }
     {
         if life == 0 || life > 86400 {
             return Err(Fault::OutOfRange);

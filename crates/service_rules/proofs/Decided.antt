@@ -1,7 +1,7 @@
 -- What is answered and left, by what was found wrong. Assumes nothing.
-use Rattle.std.proofs.Common.{◌≡◌, ℕ, ◌<◌, ◌≤◌, Bool, true, false, cond, not, ◌&&◌, List, [], ◌∷◌, length, take, drop, Some, None, Option, sym, refl, ap, ◌∙◌}
+use Rattle.std.proofs.Common.{◌≡◌, ℕ, ◌<◌, ◌≤◌, Bool, true, false, cond, not, ◌&&◌, List, length, take, drop, Some, None, Option, sym, refl, ap, ◌∙◌}
 use Rattle.parts.proofs.Conditions.{first_fault-cons, first_fault-last-none, first_fault-last-some, first_fault-nil, lowest-first, passed}
-use Rattle.parts.specs.Condition.{Lowest, first_fault, row, unless}
+use Rattle.parts.specs.Condition.{Lowest, first_fault, unless}
 use Rattle.parts.specs.declared.account.Entry.{Entry}
 use Rattle.parts.specs.declared.fault.Fault.{Fault}
 use Rattle.parts.specs.declared.fault.Fault.TheVariants.{NotNow}

@@ -25,7 +25,7 @@ impl Side {
         asking: Asking,
         digest: u128,
     ) -> Option<Fault>
-        ensures { result ≡ first_fault (judged self.entry.now (kept memory.now) (left drawn.now) ticket asking digest) }
+        ensures { result ≡ first_fault (judged self.entry.now (M.kept memory.now) (D.left drawn.now) ticket asking digest) }
     {
         let here = ticket.service == self.number && asking.service == self.number;
         lowest(&[
@@ -53,10 +53,10 @@ impl Side {
         digest: u128,
     ) -> Answer
         ensures decides { Decides
-            (view self.entry.now (kept memory.old) (junk memory.old) (writes memory.new) (left drawn.old))
+            (view self.entry.now (M.kept memory.old) (M.junk memory.old) (M.writes memory.new) (D.left drawn.old))
             ticket asking digest result
-            (view self.exit.now (kept memory.new) (junk memory.new) (writes memory.new) (left drawn.new)) }
-        ensures keeps { keeps memory.old memory.new }
+            (view self.exit.now (M.kept memory.new) (M.junk memory.new) (M.writes memory.new) (D.left drawn.new)) }
+        ensures keeps { M.keeps memory.old memory.new }
     {
         if let Some(fault) = self.judge(memory, drawn, ticket, asking, digest) {
             return Answer::Refused(fault);

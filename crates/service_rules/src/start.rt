@@ -11,7 +11,7 @@ use parts::{Fault, Ticked, told};
 impl Side {
     // Starts a side at a tick with what is read of its memory. If something there is junk it waits for lag + 1 ticks.
     pub fn begin<M: Memory>(number: u16, lag: u64, tick: u64, memory: &M) -> Result<Side, Fault>
-        ensures { result ≡ begun number lag tick (kept memory.now) (junk memory.now) }
+        ensures { result ≡ begun number lag tick (M.kept memory.now) (M.junk memory.now) }
     {
         if lag > 600 || tick >= 1 << 63 || tick < memory.highest() {
             return Err(Fault::OutOfRange);
@@ -27,7 +27,7 @@ impl Side {
 
     // Starts a service.
     pub fn start<M: Memory>(number: u16, lag: u64, tick: u64, memory: &M) -> Result<Side, Fault>
-        ensures { result ≡ started number lag tick (kept memory.now) (junk memory.now) }
+        ensures { result ≡ started number lag tick (M.kept memory.now) (M.junk memory.now) }
     {
         if is_nobody(number) {
             return Err(Fault::OutOfRange);
@@ -37,8 +37,8 @@ impl Side {
 
     // Tells it the tick.
     pub fn tick(&mut self, to: u64) -> Ticked
-        ensures answer { result ≡ clock self.entry.now.now to }
-        ensures after { self.exit.now ≡ on_tick self.entry.now to }
+        ensures answer { result ≡ clock self.old.now to }
+        ensures after { self.new ≡ on_tick self.old to }
     {
         let ticked = told(self.now, to);
         if let Ticked::On = ticked {

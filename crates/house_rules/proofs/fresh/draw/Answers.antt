@@ -1,4 +1,4 @@
-use Rattle.std.proofs.Common.{◌≡◌, ℕ, List, length, take, drop, ap, ◌∙◌, arith}
+use Rattle.std.proofs.Common.{ℕ, List, take, ap, ◌∙◌, arith}
 use Rattle.house_rules.proofs.Drawn.{enough, further}
 use Rattle.house_rules.proofs.fresh.draw.Goals as goal
 

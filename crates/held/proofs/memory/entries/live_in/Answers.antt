@@ -1,6 +1,6 @@
 use Rattle.held.proofs.Entries.{length-live-no, length-live-yes}
 use Rattle.held.proofs.memory.entries.live_in.Goals as goal
-use Rattle.held.proofs.memory.entries.live_in.Goals.{else-is-live, then-is-live}
+use Rattle.held.proofs.memory.entries.live_in.Goals.{else-is_live, then-is_live}
 use Rattle.service_rules.specs.Memory.{live_of}
 use Rattle.std.proofs.lemmas.List.{at_drop_all}
 use Rattle.std.proofs.Common.{length, sym, ◌∙◌, arith}
@@ -12,8 +12,8 @@ loop-entry-preserved c =
     let i = c.loop-entry.invariant in
     let h = sym c.is_live.ensures in
     elim c.if-is_live.branch [
-      | then-is-live w ↦ (omega (arith, i, w.live-is, yes' (h ∙ w.if-is_live.true)), omega (arith, i, w.live-is))
-      | else-is-live w ↦ (omega (arith, i, w.live-is, no' (h ∙ w.if-is_live.false)), omega (arith, i, w.live-is))
+      | then-is_live w ↦ (omega (arith, i, w.live-is, yes' (h ∙ w.if-is_live.true)), omega (arith, i, w.live-is))
+      | else-is_live w ↦ (omega (arith, i, w.live-is, no' (h ∙ w.if-is_live.false)), omega (arith, i, w.live-is))
     ]
 
 pub returns : goal.returns

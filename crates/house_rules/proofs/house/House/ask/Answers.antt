@@ -1,4 +1,4 @@
-use Rattle.house_rules.proofs.Decided.{left_alone, met, refuses, unreadable, written}
+use Rattle.house_rules.proofs.Decided.{left_alone, met, refuses, written}
 use Rattle.house_rules.proofs.house.House.ask.Goals as goal
 use Rattle.house_rules.specs.House.{home}
 use Rattle.std.proofs.Common.{sym}

@@ -2,15 +2,15 @@ use Rattle.held.proofs.supply.usage.SupplyDrawn.take_32.Goals as goal
 use Rattle.held.proofs.Parts.{cut}
 use Rattle.std.proofs.Common.{vec_items, sym, ◌∙◌, arith, length-drop, drop-drop}
 
-pub slice-bounds-copy_from_slice-end-2 : goal.slice-bounds-copy_from_slice-end-2
-slice-bounds-copy_from_slice-end-2 c =
+pub slice_bounds-copy_from_slice-end-2 : goal.slice_bounds-copy_from_slice-end-2
+slice_bounds-copy_from_slice-end-2 c =
     let s = c.args.self.now in
     omega (arith, c.requires, length-drop s.used (vec_items s.bytes), s.bytes.ok.0, c.as_slice.ensures.len)
 
-pub invariant-of-self : goal.invariant-of-self
-invariant-of-self c =
+pub invariant_of-self : goal.invariant_of-self
+invariant_of-self c =
     let s = c.args.self.now in
-    (omega (arith, c.requires, length-drop s.used (vec_items s.bytes), s.bytes.ok.0), tt)
+    record { within = omega (arith, c.requires, length-drop s.used (vec_items s.bytes), s.bytes.ok.0) }
 
 pub returns : goal.returns
 returns c =
