@@ -1,7 +1,7 @@
 -- What is answered to a letter and left, by what was found wrong. Assumes nothing.
 use Rattle.std.proofs.Common.{◌≡◌, ℕ, ◌+◌, ◌-◌, ◌^◌, ◌<◌, ◌≤◌, List, length, Some, None, Option, sym, refl, ap, ◌∙◌, arith}
 use Rattle.box_rules.specs.Chest.{Boxed, asked, asking_of}
-use Rattle.box_rules.specs.Letter.{TakesLetter, letter_conditions, letter_judged, pending_for, settled, stored, taken, taken_after, taken_by, taken_from}
+use Rattle.box_rules.specs.Letter.{TakesLetter, letter_conditions, letter_judged, pending_for, settled, stored, taken, taken_by, taken_from}
 use Rattle.box_rules.specs.Line.{wrong}
 use Rattle.box_rules.specs.declared.answer.Answer.{Answer}
 use Rattle.box_rules.specs.declared.answer.Answer.TheVariants.{Takes, Wrong}
@@ -9,7 +9,7 @@ use Rattle.box_rules.specs.declared.answer.Got.{Got}
 use Rattle.box_rules.specs.declared.line.Pending.{Pending}
 use Rattle.box_rules.specs.declared.line.Under.{Under}
 use Rattle.parts.proofs.Conditions.{first_fault-cons, lowest-first, passed}
-use Rattle.parts.specs.Condition.{Lowest, first_fault, unless}
+use Rattle.parts.specs.Condition.{first_fault, unless}
 use Rattle.parts.specs.declared.fault.Fault.{Fault}
 use Rattle.parts.specs.declared.fault.Fault.TheVariants.{NotUnderWay}
 use Rattle.parts.specs.declared.lock.Lock.{Lock}

@@ -1,10 +1,9 @@
 -- One more for loops over tickets and over what is under way. Assumes nothing.
-use Rattle.std.proofs.Common.{◌≡◌, ℕ, ◌+◌, ◌-◌, ◌<◌, ◌≤◌, Bool, true, false, cond, ◌&&◌, ◌||◌, eqb, List, [], ◌∷◌, ◌++◌, length, get_or, drop, Some, None, Option, sym, ap, ◌∙◌, append_assoc, append-nil, arith}
+use Rattle.std.proofs.Common.{◌≡◌, ℕ, ◌+◌, ◌-◌, ◌<◌, ◌≤◌, Bool, true, false, cond, ◌&&◌, ◌||◌, eqb, List, [], ◌∷◌, ◌++◌, length, get_or, drop, Some, sym, ap, ◌∙◌, append_assoc, append-nil, arith}
 use Rattle.box_rules.specs.Chest.{ticket_of}
-use Rattle.box_rules.specs.Keys.{from_end, holds, is_house}
+use Rattle.box_rules.specs.Keys.{from_end, holds}
 use Rattle.box_rules.specs.Line.{pass_of}
 use Rattle.box_rules.specs.declared.line.Held.{Held}
-use Rattle.box_rules.specs.declared.line.Pass.{Pass}
 use Rattle.parts.specs.declared.word.Key.{Key}
 use Rattle.std.proofs.lemmas.List.{at_drop_more}
 use Rattle.std.proofs.lemmas.Bool.{eq-eqb, ne_eqb}

@@ -1,13 +1,13 @@
 -- What is answered to a line and left, by what was found wrong. Assumes nothing.
 use Rattle.std.proofs.Common.{◌≡◌, ℕ, ◌≤◌, Bool, true, false, cond, List, length, Some, None, Option, sym, refl, ap, ◌∙◌}
 use Rattle.box_rules.specs.Chest.{Boxed, asked, asking_of}
-use Rattle.box_rules.specs.Line.{Wants, counted, line_conditions, line_judged, line_of, logged_in, login_of, pass_by, sent_after, sent_by, unread, wanted, wanted_after, wrong}
+use Rattle.box_rules.specs.Line.{Wants, counted, line_conditions, line_judged, line_of, logged_in, login_of, pass_by, sent_after, sent_by, unread, wrong}
 use Rattle.box_rules.specs.declared.answer.Answer.{Answer}
 use Rattle.box_rules.specs.declared.answer.Answer.TheVariants.{Asks, LogsIn, Wrong}
 use Rattle.box_rules.specs.declared.line.Line.{Line}
 use Rattle.box_rules.specs.declared.line.Pass.{Pass}
 use Rattle.parts.proofs.Conditions.{lowest-first, passed}
-use Rattle.parts.specs.Condition.{Lowest, first_fault, unless}
+use Rattle.parts.specs.Condition.{first_fault, unless}
 use Rattle.parts.specs.declared.fault.Fault.{Fault}
 use Rattle.parts.specs.declared.fault.Fault.TheVariants.{OutOfRange}
 use Rattle.parts.specs.declared.lock.Lock.{Lock}

@@ -4,7 +4,7 @@
 -- asked b k v l         the box that asked v under k for line l; asking_of: what it sent
 -- ticket_of i hs         the ticket with that id
 -- Starts                what is promised of a start; box_on_tick: a box that was told a tick
-use Rattle.std.specs.Prelude.{◌≡◌, ℕ, ◌+◌, ◌*◌, ◌/◌, ◌%◌, ◌^◌, Bool, true, false, cond, not, ◌||◌, List, [], ◌∷◌, drop, replicate, Some, None, Ok, Err, vec_items, Option, Result, ◌==◌, nat_le, nat_lt, slice_set}
+use Rattle.std.specs.Prelude.{◌≡◌, ℕ, ◌/◌, ◌%◌, ◌^◌, Bool, true, false, cond, not, ◌||◌, List, [], ◌∷◌, drop, replicate, Some, None, Ok, Err, vec_items, Option, Result, ◌==◌, nat_le, nat_lt, slice_set}
 use Rattle.box_rules.specs.Table.{put}
 use Rattle.box_rules.specs.declared.chest.Chest.{Chest}
 use Rattle.box_rules.specs.declared.line.Held.{Held}
@@ -14,7 +14,6 @@ use Rattle.parts.specs.Drawn.{number_of, salt_of}
 use Rattle.parts.specs.declared.lock.Lock.{Lock}
 use Rattle.parts.specs.declared.word.Asking.{Asking}
 use Rattle.parts.specs.declared.word.Key.{Key}
-use Rattle.parts.specs.declared.word.Login.{Login}
 use Rattle.parts.specs.declared.word.What.{What}
 use Rattle.parts.specs.Tick.{clock}
 use Rattle.parts.specs.declared.fault.Fault.TheVariants.{OutOfRange}

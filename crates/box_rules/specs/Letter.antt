@@ -4,21 +4,18 @@
 -- letter_conditions b u l  all that can be wrong with it
 -- taken b u l             what it answers; taken_after: what it is afterwards
 -- lineFor b k r           the place of the line that a receipt belongs to
-use Rattle.std.specs.Prelude.{◌≡◌, ℕ, ◌+◌, ◌-◌, ◌^◌, Bool, cond, not, List, [], ◌∷◌, length, is_some, Some, None, Option, ◌==◌, nat_le, nat_lt}
+use Rattle.std.specs.Prelude.{◌≡◌, ℕ, ◌+◌, ◌-◌, ◌^◌, cond, not, List, [], ◌∷◌, length, is_some, Some, None, Option, ◌==◌, nat_le, nat_lt}
 use Rattle.box_rules.specs.Chest.{Boxed, asked, asking_of}
 use Rattle.box_rules.specs.Line.{wrong}
 use Rattle.box_rules.specs.Table.{oldest, put, without}
 use Rattle.box_rules.specs.declared.answer.Answer.{Answer}
 use Rattle.box_rules.specs.declared.answer.Answer.TheVariants.{Receipt as Confirms, Takes, Wrong}
-use Rattle.box_rules.specs.declared.line.Held.{Held}
 use Rattle.box_rules.specs.declared.line.Pending.{Pending}
-use Rattle.box_rules.specs.declared.line.Sought.{Sought}
 use Rattle.box_rules.specs.declared.line.Sought.TheVariants.{AtHouse, AtService, Login}
 use Rattle.box_rules.specs.declared.line.Under.{Under}
 use Rattle.box_rules.specs.declared.line.Under.TheVariants.{Own, Session}
 use Rattle.parts.specs.Condition.{Lowest, first_fault, row, unless}
 use Rattle.parts.specs.declared.condition.Condition.{Condition}
-use Rattle.parts.specs.declared.fault.Fault.{Fault}
 use Rattle.parts.specs.declared.fault.Fault.TheVariants.{NoDrawnBytes, NotUnderWay, OutOfRange}
 use Rattle.parts.specs.declared.word.Key.{Key}
 use Rattle.parts.specs.declared.word.Letter.{Letter}

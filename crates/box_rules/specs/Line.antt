@@ -5,7 +5,7 @@
 -- wanted b v by w       what it answers to a line for service v, by that ticket or by none, with these words
 -- wanted_after b v by w  what it is afterwards
 -- wrong r               the fault of an answer, if it is one
-use Rattle.std.specs.Prelude.{◌≡◌, ℕ, ◌+◌, ◌-◌, ◌^◌, Bool, true, false, cond, not, ◌&&◌, ◌||◌, List, [], ◌∷◌, length, drop, is_some, Some, None, Option, ◌==◌, nat_lt}
+use Rattle.std.specs.Prelude.{◌≡◌, ℕ, ◌+◌, ◌-◌, ◌^◌, Bool, false, cond, not, ◌&&◌, ◌||◌, List, [], ◌∷◌, length, drop, is_some, Some, None, Option, ◌==◌, nat_lt}
 use Rattle.box_rules.specs.Chest.{Boxed, asked, asking_of}
 use Rattle.box_rules.specs.Table.{put}
 use Rattle.box_rules.specs.declared.answer.Answer.{Answer}

@@ -4,7 +4,7 @@
 -- without n xs        those with another number
 -- matches s p         what is under way is the one sought
 -- oldest s xs         the oldest of those that match
-use Rattle.std.specs.Prelude.{ℕ, Bool, cond, not, ◌&&◌, List, [], ◌∷◌, take, Some, None, filter, Option, ◌==◌}
+use Rattle.std.specs.Prelude.{Bool, cond, not, ◌&&◌, List, [], ◌∷◌, take, Some, None, filter, Option, ◌==◌}
 use Rattle.box_rules.specs.declared.line.Pending.{Pending}
 use Rattle.box_rules.specs.declared.line.Sought.{Sought}
 use Rattle.box_rules.specs.declared.line.Sought.TheVariants.{AtHouse, AtService, Login}

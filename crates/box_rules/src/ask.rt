@@ -14,10 +14,10 @@ pub(crate) const DRAWN: usize = 32;
 
 // Draws a number and the bytes for a lock.
 fn draw<D: Drawn>(drawn: &mut D) -> (Number, Salt)
-    requires { 32 ≤ length (left drawn.old) }
-    ensures number { result.0 ≡ number_of (left drawn.old) }
-    ensures salt { result.1 ≡ salt_of (drop 16 (left drawn.old)) }
-    ensures rest { left drawn.new ≡ drop 32 (left drawn.old) }
+    requires { 32 ≤ length (D.left drawn.old) }
+    ensures number { result.0 ≡ number_of (D.left drawn.old) }
+    ensures salt { result.1 ≡ salt_of (drop 16 (D.left drawn.old)) }
+    ensures rest { D.left drawn.new ≡ drop 32 (D.left drawn.old) }
 {
     let number = Number(drawn.take_16());
     let salt = Salt(drawn.take_16());
@@ -55,9 +55,9 @@ fn tick_of(sent: u64, asks: u16, line: Line) -> u64
 impl<T: Drop> Chest<T> {
     // Logs in for a line.
     pub(crate) fn log_in<D: Drawn>(mut self, drawn: &mut D, line: Line) -> (Chest<T>, Lock<Login>)
-        requires { 32 ≤ length (left drawn.old) }
-        ensures sent { result.1 ≡ login_of (boxed self (left drawn.old)) }
-        ensures after { boxed result.0 (left drawn.new) ≡ logged_in (boxed self (left drawn.old)) line }
+        requires { 32 ≤ length (D.left drawn.old) }
+        ensures sent { result.1 ≡ login_of (boxed self (D.left drawn.old)) }
+        ensures after { boxed result.0 (D.left drawn.new) ≡ logged_in (boxed self (D.left drawn.old)) line }
     {
         let (number, salt) = draw(drawn);
         let key = self.key;
@@ -89,9 +89,9 @@ impl<T: Drop> Chest<T> {
         asks: u16,
         line: Line,
     ) -> (Chest<T>, Lock<Asking>)
-        requires { 32 ≤ length (left drawn.old) }
-        ensures sent { result.1 ≡ asking_of (boxed self (left drawn.old)) key asks line }
-        ensures after { boxed result.0 (left drawn.new) ≡ asked (boxed self (left drawn.old)) key asks line }
+        requires { 32 ≤ length (D.left drawn.old) }
+        ensures sent { result.1 ≡ asking_of (boxed self (D.left drawn.old)) key asks line }
+        ensures after { boxed result.0 (D.left drawn.new) ≡ asked (boxed self (D.left drawn.old)) key asks line }
     {
         let (number, salt) = draw(drawn);
         let what = what_of(asks, line);

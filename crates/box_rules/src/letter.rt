@@ -14,7 +14,7 @@ use parts::{Class, Drawn, Fault, Key, Letter, Receipt, check, lowest};
 
 // What is wrong with a letter that opened.
 fn judge_letter<D: Drawn>(taken: u64, drawn: &D, pending: Option<Pending>) -> Option<Fault>
-    ensures { result ≡ first_fault (letter_judged taken (left drawn.now) pending) }
+    ensures { result ≡ first_fault (letter_judged taken (D.left drawn.now) pending) }
 {
     lowest(&[
         check(Fault::NotUnderWay, !pending.is_some()),
@@ -79,7 +79,7 @@ impl<T: Drop> Chest<T> {
         letter: Letter,
         ticket: T,
     ) -> (Chest<T>, Answer)
-        ensures { TakesLetter (boxed self (left drawn.old)) under letter ticket result.1 (boxed result.0 (left drawn.new)) }
+        ensures { TakesLetter (boxed self (D.left drawn.old)) under letter ticket result.1 (boxed result.0 (D.left drawn.new)) }
     {
         let found = self.pending_for(under, letter);
         if let Some(fault) = judge_letter(self.taken, drawn, found) {

@@ -15,7 +15,7 @@ const TABLE: usize = 16;
 
 // The ticket with this id.
 fn ticket_in<T>(tickets: &[Held<T>], id: u64) -> Option<&T>
-    ensures { option_map now result ≡ ticket_of id tickets.now }
+    ensures { option_map (λ r. r.now) result ≡ ticket_of id tickets.now }
 {
     for held in tickets {
         if held.pass.id == id {
@@ -68,7 +68,7 @@ impl<T: Drop> Chest<T> {
 
     // The ticket with this id.
     pub fn ticket(&self, id: u64) -> Option<&T>
-        ensures { option_map now result ≡ ticket_of id self.entry.now.tickets.items }
+        ensures { option_map (λ r. r.now) result ≡ ticket_of id self.entry.now.tickets.items }
     {
         ticket_in(self.tickets.as_slice(), id)
     }

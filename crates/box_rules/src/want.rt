@@ -74,7 +74,7 @@ fn judge_line<D: Drawn>(
     by: Option<u64>,
     pass: Option<Pass>,
 ) -> Option<Fault>
-    ensures { result ≡ first_fault (line_judged tick (left drawn.now) service by pass) }
+    ensures { result ≡ first_fault (line_judged tick (D.left drawn.now) service by pass) }
 {
     let wrong = service == 0 || is_misfit(service, pass);
     lowest(&[
@@ -94,7 +94,7 @@ impl<T: Drop> Chest<T> {
         by: Option<u64>,
         what: What,
     ) -> (Chest<T>, Answer)
-        ensures { Wants (boxed self (left drawn.old)) service by what result.1 (boxed result.0 (left drawn.new)) }
+        ensures { Wants (boxed self (D.left drawn.old)) service by what result.1 (boxed result.0 (D.left drawn.new)) }
     {
         if is_unread(self.lines, service, &what) {
             return (self, Answer::Wrong(Fault::OutOfRange));

@@ -1,31 +1,29 @@
 -- Acts on accounts: opening and closing. Assumes nothing.
-use Rattle.std.proofs.Common.{◌≡◌, ℕ, suc, ◌+◌, ◌<◌, ◌≤◌, Bool, true, false, cond, not, ◌&&◌, ◌||◌, eqb, ◌⊎◌, List, [], ◌∷◌, ◌++◌, length, get_or, set, sym, refl, ap, ◌∙◌, subst, inl, inr, arith, length-set, get_or-set_other, get_or-set_same, eq-eqb, eqb-true}
+use Rattle.std.proofs.Common.{◌≡◌, ℕ, suc, ◌<◌, ◌≤◌, Bool, true, false, cond, ◌||◌, eqb, ◌⊎◌, List, ◌∷◌, length, set, sym, refl, ap, ◌∙◌, subst, inl, inr, arith, length-set, get_or-set_other, get_or-set_same, eq-eqb, eqb-true}
 use mathlib.Core.List.{Memᴰ}
 use native.Mathlib.Decide.{dec_lt}
 use Rattle.std.proofs.lemmas.List.{get_or_past}
 use Rattle.parts.specs.declared.account.Account.{Account}
 use Rattle.parts.specs.declared.account.Account.TheVariants.{Absent, Open, Closed}
-use Rattle.parts.specs.declared.fault.Fault.TheVariants.{Unknown, NotNow}
+use Rattle.parts.specs.declared.fault.Fault.TheVariants.{Unknown}
 use Rattle.parts.specs.declared.word.Key.{Key}
 use Rattle.service_rules.specs.Service.{nobody}
-use Rattle.house_rules.specs.Account.{account_of, is_absent, is_closed as isShut, key_in, unknown, closed, own_key}
-use Rattle.house_rules.specs.Change.{changed, opened, opened_from, opened_after, shut, shut_from, shut_after, closed_of, written}
-use Rattle.house_rules.specs.declared.change.Changed.{Changed}
-use Rattle.house_rules.specs.declared.change.Changed.TheVariants.{Done, Refused, Same}
-use Rattle.house_rules.specs.House.{Home}
+use Rattle.house_rules.specs.Account.{account_of, is_absent, is_closed as isShut, key_in, unknown, closed}
+use Rattle.house_rules.specs.Change.{changed, opened_from, opened_after, shut_from, shut_after, closed_of}
+use Rattle.house_rules.specs.declared.change.Changed.TheVariants.{Refused}
 use Rattle.tickets.specs.State.{Closing, State, is_closed}
 use Rattle.tickets.specs.Event.{Event, after, Reach}
 use Rattle.tickets.specs.Event
 use Rattle.tickets.proofs.Keep.{Change}
-use Rattle.tickets.proofs.Steps.{reached, change}
-use Rattle.tickets.proofs.Bools.{clash, either, or-false-left, or-false-right}
-use Rattle.rows.specs.Name.{Bytes, Naming, own_of}
+use Rattle.tickets.proofs.Reached.{reached, change}
+use Rattle.tickets.proofs.Bools.{clash, either}
+use Rattle.rows.specs.Name.{Naming, own_of}
 use Rattle.rows.specs.Setting.{Setting, rules_of}
 use Rattle.rows.specs.System.{System, with-home, home-accounts, OwnKeyTold}
 use Rattle.rows.specs.Row.{Wanted, Deed, Given, Begun, Taken}
-use Rattle.rows.proofs.Pairs.{At, down-more}
+use Rattle.rows.proofs.Pairs.{down-more}
 use Rattle.rows.proofs.Noting.{notes-later}
-use Rattle.rows.proofs.Matches.{Matches, HomeOk, AccountOk, ClosedBy, side-stays, box-stays}
+use Rattle.rows.proofs.Matches.{AccountOk, ClosedBy, side-stays, box-stays}
 use Rattle.rows.proofs.Tied.{Tied, unseen, deeds-stay}
 use Rattle.rows.proofs.Quiet.{matches-home}
 

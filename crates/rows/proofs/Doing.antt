@@ -1,5 +1,5 @@
 -- What the house and the services hear: logins, askings for tickets, askings to services. Assumes nothing.
-use Rattle.std.proofs.Common.{◌≡◌, ℕ, suc, ◌+◌, ◌<◌, ◌≤◌, Bool, true, false, cond, not, ◌&&◌, ◌||◌, eqb, ◌⊎◌, List, [], ◌∷◌, ◌++◌, length, drop, Some, None, Option, sym, refl, ap, ◌∙◌, subst, inl, inr, arith, eq-eqb, eqb-true}
+use Rattle.std.proofs.Common.{◌≡◌, ℕ, suc, ◌+◌, ◌<◌, Bool, true, false, cond, eqb, ◌⊎◌, List, [], ◌∷◌, ◌++◌, length, Some, None, Option, sym, refl, ap, ◌∙◌, subst, inl, inr, arith, eq-eqb, eqb-true}
 use mathlib.Core.List.Memᴰ
 use mathlib.Core.List.{Memᴰ}
 use Rattle.parts.specs.Condition.{first_fault, unless}
@@ -8,7 +8,6 @@ use Rattle.parts.specs.declared.fault.Fault.{Fault}
 use Rattle.parts.specs.declared.fault.Fault.TheVariants.{BadInside}
 use Rattle.parts.specs.declared.word.Key.{Key as Bytes32}
 use Rattle.parts.specs.declared.word.Ticket.{Ticket}
-use Rattle.parts.specs.declared.word.Letter.{Letter}
 use Rattle.parts.specs.declared.word.Asking.{Asking}
 use Rattle.parts.specs.declared.word.Login.{Login}
 use Rattle.service_rules.specs.Memory.{recorded}
@@ -21,26 +20,26 @@ use Rattle.house_rules.specs.Give.{giving}
 use Rattle.house_rules.specs.House.{Home, until_of, readable, wanted}
 use Rattle.house_rules.specs.House as house
 use Rattle.house_rules.specs.declared.reply.Reply.{Reply}
-use Rattle.house_rules.specs.declared.reply.Reply.TheVariants.{Granted, Refused}
+use Rattle.house_rules.specs.declared.reply.Reply.TheVariants.{Refused}
 use Rattle.tickets.specs.Term.{Term, Num, Own, Gets, even}
-use Rattle.tickets.specs.State.{Closing, Rules, Key, Asked, Done, State, Safe}
+use Rattle.tickets.specs.State.{Closing, Key, Done, State, Safe}
 use Rattle.tickets.specs.Event.{Event, Body, after, Reach, ticket, letter_of, new_key, new_done}
 use Rattle.tickets.specs.Event as events
 use Rattle.tickets.specs.Promise.{Origin, by-reader}
 use Rattle.tickets.proofs.Keep.{Change}
-use Rattle.tickets.proofs.Steps.{reached, change}
+use Rattle.tickets.proofs.Reached.{reached, change}
 use Rattle.tickets.proofs.Main.{main}
 use Rattle.tickets.proofs.Bools.{clash}
-use Rattle.rows.specs.Name.{Bytes, Naming, own_of, spell}
+use Rattle.rows.specs.Name.{Naming, spell}
 use Rattle.rows.specs.Word.{body_of, words_of, ticket_term, letter_term, reply_sent, reply_drawn, answer_sent}
 use Rattle.rows.specs.Setting.{Setting, rules_of}
 use Rattle.rows.specs.System.{System, at, with-home, with-side, with-sent, New, HeardLogin, HeardAtHouse, HeardAtService}
 use Rattle.rows.specs.Row.{Wanted, Deed, Given, Begun, Taken, SafeDeed, key_told, deed_told}
-use Rattle.rows.proofs.Pairs.{Pairs, both, Among, skip, At, Down, down-more, down-low, pairs-at}
-use Rattle.rows.proofs.Noting.{Notes, notes-later, notes-done}
-use Rattle.rows.proofs.Matches.{Matches, HomeOk, SideOk, BoxOk, NetOk, AccountOk, gets_more, home_stays, side-stays, box-stays}
+use Rattle.rows.proofs.Pairs.{both, Among, skip, down-more, down-low, pairs-at}
+use Rattle.rows.proofs.Noting.{Notes, notes-done}
+use Rattle.rows.proofs.Matches.{HomeOk, SideOk, AccountOk, gets_more, home_stays, side-stays, box-stays}
 use Rattle.rows.proofs.Sides.{Clear, clear, ClearHome, clear-home, wanted-known, does-so, logs-so, serves-so}
-use Rattle.rows.proofs.Tied.{Tied, SameLine, SameDeed, SameKey, LineFact, DeedFact, TakenFact, unseen, deeds-stay, taken-stays}
+use Rattle.rows.proofs.Tied.{Tied, SameDeed, LineFact, unseen, deeds-stay, taken-stays}
 use Rattle.rows.proofs.Quiet.{matches-home, matches-side}
 
 -- one of many: the changed one, or another, as before

@@ -1,5 +1,5 @@
 -- The row of specs/Happens.antt can happen. Assumes nothing.
-use Rattle.std.proofs.Common.{◌≡◌, ℕ, List, [], ◌∷◌, replicate, refl, arith}
+use Rattle.std.proofs.Common.{List, [], ◌∷◌, replicate, refl, arith}
 use mathlib.Core.List.Memᴰ
 use Rattle.parts.specs.Condition.{first_fault}
 use Rattle.tickets.specs.Term.{has}

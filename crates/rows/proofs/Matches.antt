@@ -1,5 +1,5 @@
 -- How the system stands to a state of the model that does the same. Assumes nothing.
-use Rattle.std.proofs.Common.{◌≡◌, ℕ, suc, ◌+◌, ◌<◌, ◌≤◌, Bool, true, false, ◌⊎◌, List, [], ◌∷◌, ◌++◌, length, sym, refl, ap, ◌∙◌, subst, inl, inr, arith}
+use Rattle.std.proofs.Common.{◌≡◌, ℕ, suc, ◌<◌, ◌≤◌, true, false, List, length, sym, ◌∙◌, subst, arith}
 use mathlib.Core.List.{Memᴰ}
 use Rattle.parts.specs.declared.account.Account.{Account}
 use Rattle.service_rules.specs.Service.{View}
@@ -10,11 +10,11 @@ use Rattle.box_rules.specs.declared.line.Pending.{Pending}
 use Rattle.box_rules.specs.declared.line.Held.{Held}
 use Rattle.tickets.specs.Term.{Term, Gets, has, num, odd, pair, left, right, lock, open', even}
 use Rattle.tickets.specs.Term
-use Rattle.tickets.specs.State.{Rules, Line, Stage, LoggingIn, AskingHouse, Wish, Asked, Done, Closing, State, is_in, is_closed}
+use Rattle.tickets.specs.State.{Line, Stage, LoggingIn, AskingHouse, Wish, Asked, Done, Closing, State, is_in, is_closed}
 use Rattle.tickets.proofs.Known.{Grows}
-use Rattle.rows.specs.Name.{Bytes, Naming, own_of, spell}
+use Rattle.rows.specs.Name.{Naming, own_of, spell}
 use Rattle.rows.specs.Word.{words_of}
-use Rattle.rows.specs.Setting.{Setting, rules_of}
+use Rattle.rows.specs.Setting.{Setting}
 use Rattle.rows.specs.System.{System, Box, box-now}
 use Rattle.box_rules.specs.Chest.{set_tick as boxTick}
 use Rattle.parts.specs.declared.tick.Ticked.{Ticked}

@@ -1,9 +1,8 @@
 -- Different keys and numbers have different names, and a draw is named by its place. Assumes nothing.
-use Rattle.std.proofs.Common.{◌≡◌, ℕ, zero, suc, ◌+◌, ◌*◌, ◌<◌, ◌≤◌, Bool, true, false, cond, ◌&&◌, eqb, ◌⊎◌, List, [], ◌∷◌, ◌++◌, length, get_or, Some, None, Option, sym, refl, ap, ◌∙◌, subst, inl, inr, arith, eq-eqb, eqb-true}
-use mathlib.Core.List.{Memᴰ}
+use Rattle.std.proofs.Common.{◌≡◌, ℕ, zero, suc, ◌+◌, ◌*◌, ◌<◌, ◌≤◌, Bool, true, false, cond, ◌&&◌, eqb, ◌⊎◌, List, [], ◌∷◌, ◌++◌, length, Some, None, Option, sym, refl, ap, ◌∙◌, subst, inl, inr, arith, eq-eqb, eqb-true}
 use Rattle.std.specs.Str.{bytes_eq}
 use Rattle.parts.specs.declared.word.Key.{Key}
-use Rattle.tickets.specs.Term.{Term, Num, Own, Drawn, Pair, even}
+use Rattle.tickets.specs.Term.{Own, Drawn, even}
 use Rattle.tickets.proofs.Bools.{clash, either, even-injective}
 use Rattle.rows.specs.Name.{Apart, DrawsNamed, Bytes, spell, own_name, draw_name, named, name_of, own_of, Naming}
 

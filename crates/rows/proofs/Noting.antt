@@ -1,9 +1,9 @@
 -- What a side remembers covers what the model knows to be done. Assumes nothing.
-use Rattle.std.proofs.Common.{◌≡◌, ℕ, ◌+◌, ◌-◌, ◌<◌, ◌≤◌, Bool, true, false, cond, not, ◌&&◌, ◌||◌, eqb, ltb, leb, ◌⊎◌, List, [], ◌∷◌, ◌++◌, length, filter, sym, refl, ap, ◌∙◌, subst, inl, inr, arith, eq-eqb, eqb-true}
+use Rattle.std.proofs.Common.{◌≡◌, ℕ, ◌+◌, ◌-◌, ◌<◌, ◌≤◌, Bool, true, false, cond, eqb, ◌⊎◌, List, [], ◌∷◌, filter, sym, refl, ap, ◌∙◌, subst, inl, inr, arith, eq-eqb}
 use mathlib.Core.List.Memᴰ
 use mathlib.Core.List.{Memᴰ}
-use Rattle.std.proofs.lemmas.Bool.{leb-true, leb-false, ltb-true, ltb-false, le-leb}
-use Rattle.parts.specs.Tick.{lately, over, live}
+use Rattle.std.proofs.lemmas.Bool.{le-leb}
+use Rattle.parts.specs.Tick.{live}
 use Rattle.parts.specs.declared.account.Entry.{Entry}
 use Rattle.parts.specs.declared.word.Key.{Key}
 use Rattle.parts.specs.declared.word.Number.{Number}
@@ -11,10 +11,9 @@ use Rattle.service_rules.specs.Memory.{live_of, stands, recorded}
 use Rattle.held.specs.Crash.{reread, rejunk, fits}
 use Rattle.held.specs.declared.memory.Cut.{Cut}
 use Rattle.held.specs.declared.memory.Cut.TheVariants.{Junk, New, Old}
-use Rattle.service_rules.specs.declared.side.Side.{Side}
-use Rattle.tickets.specs.State.{Done, State, Lately}
+use Rattle.tickets.specs.State.{Done, State}
 use Rattle.tickets.specs.Event.{DoneBefore}
-use Rattle.tickets.proofs.Bools.{clash, either, or_left, or_right}
+use Rattle.tickets.proofs.Bools.{clash, or_left, or_right}
 use Rattle.rows.specs.Name.{Bytes, Naming}
 use Rattle.rows.specs.Setting.{Setting, Writing, rules_of}
 

@@ -1,29 +1,28 @@
 -- Every possible row is a run of the model, and so the promises over rows. Assumes nothing.
-use Rattle.std.proofs.Common.{◌≡◌, ℕ, zero, suc, ◌+◌, ◌<◌, ◌≤◌, Bool, true, false, cond, not, ◌&&◌, ◌||◌, ◌⊎◌, List, [], ◌∷◌, ◌++◌, length, get_or, replicate, sym, refl, ap, ◌∙◌, subst, inl, inr, append_assoc, arith}
+use Rattle.std.proofs.Common.{◌≡◌, ℕ, zero, suc, ◌<◌, Bool, true, false, List, [], ◌∷◌, ◌++◌, length, replicate, sym, refl, ap, ◌∙◌, subst, append_assoc, arith}
 use mathlib.Core.List.Memᴰ
 use mathlib.Core.List.{Memᴰ}
 use Rattle.parts.specs.declared.account.Account.{Account}
 use Rattle.parts.specs.declared.account.Account.TheVariants.{Absent}
 use Rattle.service_rules.specs.Service.{nobody}
-use Rattle.house_rules.specs.Account.{account_of, is_absent, is_closed as isShut, closed}
-use Rattle.tickets.specs.Term.{Term, Gets, even}
-use Rattle.tickets.specs.State.{Rules, Line, LoggingIn, Key, Wish, Done, Closing, State, Safe, is_in, is_closed, start}
+use Rattle.house_rules.specs.Account.{account_of, is_absent, is_closed as isShut}
+use Rattle.tickets.specs.Term.{Term, Gets}
+use Rattle.tickets.specs.State.{Line, LoggingIn, Done, Closing, State, Safe, is_in, is_closed, start}
 use Rattle.tickets.specs.Event.{Event, Reach}
 use Rattle.tickets.specs.Event as events
-use Rattle.tickets.specs.Promise.{Answers, AsWanted, Origin, by-reader}
+use Rattle.tickets.specs.Promise.{by-reader}
 use Rattle.tickets.proofs.Bools.{clash, or_right}
 use Rattle.tickets.proofs.Main.{main}
-use Rattle.rows.specs.Name.{Bytes, Naming, own_of, spell}
+use Rattle.rows.specs.Name.{Naming}
 use Rattle.rows.specs.Setting.{Setting, rules_of}
 use Rattle.rows.specs.System.{System, Act, Possible, run, first}
 use Rattle.rows.specs.System as system
 use Rattle.rows.specs.Row
 use Rattle.rows.specs.Row.{Wanted, Deed, Given, Begun, Taken, SafeDeed, For, Accounted, AskedOnce, Kept, Over, LoggedIn, Fresh, IsRun, lines, deeds, keys, begun, takens}
 use Rattle.rows.proofs.Names.{spell-apart}
-use Rattle.rows.proofs.Noting.{Notes}
 use Rattle.rows.proofs.Pairs.{Pairs, none, Among, At, Down, at_one, at_first, pairs-at, pairs_of, among_of}
 use Rattle.rows.proofs.Pairs as pairs
-use Rattle.rows.proofs.Matches.{Matches, HomeOk, SideOk, BoxOk, ClosedBy, gets_more}
+use Rattle.rows.proofs.Matches.{gets_more}
 use Rattle.rows.proofs.Tied.{Tied, SameDeed, LineFact, DeedFact, stage_of, unseen}
 use Rattle.rows.proofs.Quiet.{hands-house, hands-service, hands-reader, device-house, device-service, crash-house, crash-service, crash-reader, steals-one}
 use Rattle.rows.proofs.Accounts.{opens_one, closes-one}

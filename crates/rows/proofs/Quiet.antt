@@ -1,35 +1,27 @@
 -- Acts that tell nothing: drawn bytes, devices, ticks, thefts, accounts, crashes. Assumes nothing.
-use Rattle.std.proofs.Common.{◌≡◌, ℕ, zero, suc, ◌+◌, ◌-◌, ◌^◌, ◌<◌, ◌≤◌, Bool, true, false, cond, not, ◌&&◌, ◌||◌, eqb, ltb, leb, ◌⊎◌, List, [], ◌∷◌, ◌++◌, length, get_or, set, Some, None, Ok, Err, Option, sym, refl, ap, ◌∙◌, subst, inl, inr, arith, eq-eqb, eqb-true}
+use Rattle.std.proofs.Common.{◌≡◌, ℕ, suc, ◌+◌, ◌<◌, ◌≤◌, Bool, true, false, cond, eqb, ◌⊎◌, List, ◌∷◌, ◌++◌, length, Ok, Err, sym, refl, ap, ◌∙◌, subst, inl, inr, arith, eqb-true}
 use mathlib.Core.List.Memᴰ
 use mathlib.Core.List.{Memᴰ}
-use Rattle.std.proofs.lemmas.Bool.{leb-true, leb-false, ltb-true, ltb-false}
-use Rattle.parts.specs.Tick.{clock}
-use Rattle.parts.specs.declared.tick.Ticked.{Ticked}
-use Rattle.parts.specs.declared.tick.Ticked.TheVariants.{On, Back, Stopped}
 use Rattle.parts.specs.declared.account.Entry.{Entry}
-use Rattle.parts.specs.declared.word.Key.{Key}
 use Rattle.service_rules.specs.Service.{View, view}
-use Rattle.service_rules.specs.Side.{on_tick, set_tick, unfit}
+use Rattle.service_rules.specs.Side.{unfit}
 use Rattle.service_rules.specs.declared.side.Side.{Side}
 use Rattle.parts.specs.declared.fault.Fault.TheVariants.{OutOfRange}
 use Rattle.held.specs.declared.memory.Cut.{Cut}
 use Rattle.house_rules.specs.House.{Home}
 use Rattle.tickets.specs.Term.{Term, Own}
-use Rattle.tickets.specs.State.{Rules, Line, Stage, Wish, Done, Closing, State, is_in}
+use Rattle.tickets.specs.State.{Done, Closing, State}
 use Rattle.tickets.specs.Event.{Event, after, Reach, Later}
 use Rattle.tickets.specs.Event
-use Rattle.tickets.proofs.Known.{Grows}
 use Rattle.tickets.proofs.Keep.{Change}
-use Rattle.tickets.proofs.Inv.{Inv}
-use Rattle.tickets.proofs.Steps.{reached, change}
-use Rattle.tickets.proofs.Bools.{clash, either}
+use Rattle.tickets.proofs.Reached.{reached, change}
 use Rattle.rows.specs.Name.{Bytes, Naming, own_of}
 use Rattle.rows.specs.Setting.{Setting, Writing, rules_of}
-use Rattle.rows.specs.System.{System, Box, at, with-home, with-side, with-box, home-side, home-left, home-memory, box-left, box-now, empty_box, crashed_view, crashed_home, view_of, restarted}
+use Rattle.rows.specs.System.{System, Box, at, with-home, with-side, with-box, home-left, home-memory, box-left, empty_box, crashed_view, crashed_home, view_of, restarted}
 use Rattle.rows.specs.Row.{Wanted, Deed, Given, Begun, Taken}
-use Rattle.rows.proofs.Pairs.{At, down-more}
-use Rattle.rows.proofs.Noting.{Notes, notes-later, notes-again}
-use Rattle.rows.proofs.Matches.{Matches, HomeOk, SideOk, BoxOk, NetOk, PendingOk, ClosedBy, home_stays, side-stays, box-stays, pending-stays, ticket-stays}
+use Rattle.rows.proofs.Pairs.{down-more}
+use Rattle.rows.proofs.Noting.{Notes, notes-again}
+use Rattle.rows.proofs.Matches.{Matches, HomeOk, SideOk, BoxOk, home_stays, side-stays, box-stays}
 use Rattle.rows.proofs.Tied.{Tied, unseen, deeds-stay}
 
 -- one of many: the changed one, or as before

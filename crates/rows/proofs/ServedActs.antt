@@ -1,12 +1,11 @@
 -- What box, house and service answer to the six acts, each by its own definitions. Assumes nothing.
-use Rattle.std.proofs.Common.{◌≡◌, ℕ, zero, suc, ◌+◌, ◌-◌, ◌*◌, ◌/◌, ◌%◌, ◌^◌, ◌<◌, ◌≤◌, Bool, true, false, cond, not, ◌&&◌, ◌||◌, eqb, ltb, leb, ◌⊎◌, List, [], ◌∷◌, ◌++◌, length, get_or, take, drop, is_some, Some, None, Option, sym, refl, ap, ◌∙◌, subst, inl, inr, arith}
+use Rattle.std.proofs.Common.{◌≡◌, ℕ, ◌+◌, ◌-◌, ◌*◌, ◌^◌, ◌<◌, ◌≤◌, Bool, true, false, cond, not, ◌&&◌, ◌||◌, eqb, ltb, leb, ◌⊎◌, List, [], ◌∷◌, length, get_or, is_some, Some, None, Option, sym, refl, ap, ◌∙◌, inl, inr, arith}
 use mathlib.Core.List.{Memᴰ}
-use Rattle.std.proofs.lemmas.Bool.{le-ltb, le-leb, lt-leb, eq-eqb, ne_eqb, or_from, and_from, and_left, and_right, not_from_true, cond-true, cond-false}
+use Rattle.std.proofs.lemmas.Bool.{le-ltb, le-leb, lt-leb, eq-eqb, ne_eqb, or_from, and_from, and_right, not_from_true, cond-false}
 use Rattle.std.specs.Str.{bytes_eq}
 use Rattle.parts.specs.Condition.{first_fault, row, unless}
 use Rattle.parts.specs.Tick.{lately, over}
 use Rattle.parts.proofs.Conditions.{first_fault-cons, first_fault-nil}
-use Rattle.parts.specs.declared.account.Account.{Account}
 use Rattle.parts.specs.declared.condition.Condition.{Condition}
 use Rattle.parts.specs.declared.fault.Fault.{Fault}
 use Rattle.parts.specs.declared.fault.Fault.TheVariants.{OutOfRange}
@@ -37,7 +36,7 @@ use Rattle.box_rules.specs.declared.line.Pending.{Pending}
 use Rattle.box_rules.specs.declared.line.Sought.{Sought}
 use Rattle.box_rules.specs.declared.line.Under.{Under}
 use Rattle.tickets.specs.Term.{even}
-use Rattle.tickets.proofs.Bools.{clash, either, or-false-left, or-false-right, even-injective}
+use Rattle.tickets.proofs.Bools.{either, or-false-left, or-false-right, even-injective}
 use Rattle.rows.specs.Name.{Bytes, Naming}
 use Rattle.rows.specs.Setting.{Setting}
 use Rattle.rows.specs.System.{Box}

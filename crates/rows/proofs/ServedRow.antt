@@ -1,7 +1,7 @@
 -- Six acts upon any row that can happen, and whoever is ready is served. Assumes nothing.
-use Rattle.std.proofs.Common.{◌≡◌, ℕ, suc, ◌+◌, ◌-◌, ◌^◌, ◌<◌, ◌≤◌, Bool, true, false, cond, not, ◌&&◌, ◌||◌, eqb, ltb, List, [], ◌∷◌, ◌++◌, length, take, drop, Some, None, Option, sym, refl, ap, ◌∙◌, subst, arith, length-drop}
+use Rattle.std.proofs.Common.{◌≡◌, ℕ, suc, ◌+◌, ◌≤◌, Bool, false, cond, ◌&&◌, eqb, ltb, List, [], ◌∷◌, ◌++◌, length, take, drop, Some, None, sym, refl, ap, ◌∙◌, subst, arith, length-drop}
 use mathlib.Core.List.{Memᴰ}
-use Rattle.std.proofs.lemmas.Bool.{eq-eqb, eqb-false, and_left, and_right, and_from, cond-true, cond-false}
+use Rattle.std.proofs.lemmas.Bool.{eq-eqb, eqb-false, and_left, and_right, and_from, cond-true}
 use Rattle.std.specs.Str.{bytes_eq}
 use Rattle.parts.specs.Condition.{first_fault}
 use Rattle.parts.specs.Drawn.{number_of, key_of}
@@ -17,19 +17,17 @@ use Rattle.service_rules.specs.Service as service
 use Rattle.service_rules.specs.declared.answer.Answer.{Answer}
 use Rattle.service_rules.specs.declared.answer.Answer.TheVariants.{Done}
 use Rattle.service_rules.specs.declared.side.Side.{Side}
-use Rattle.house_rules.specs.Account.{account_of, is_absent, own_key, unknown}
+use Rattle.house_rules.specs.Account.{account_of, is_absent, own_key}
 use Rattle.house_rules.specs.Give.{giving}
 use Rattle.house_rules.specs.House.{Home, until_of}
 use Rattle.house_rules.specs.House as house
 use Rattle.house_rules.specs.declared.reply.Reply.{Reply}
 use Rattle.box_rules.specs.Chest.{asked, asking_of, two_bytes}
-use Rattle.box_rules.specs.Table.{matches}
 use Rattle.box_rules.specs.Line as line
 use Rattle.box_rules.specs.Letter as letter
 use Rattle.box_rules.specs.declared.answer.Answer as Told
 use Rattle.box_rules.specs.declared.answer.Answer.TheVariants as told
 use Rattle.box_rules.specs.declared.line.Line.{Line}
-use Rattle.box_rules.specs.declared.line.Pending.{Pending}
 use Rattle.box_rules.specs.declared.line.Sought.TheVariants.{AtHouse, Login as ByNumber}
 use Rattle.box_rules.specs.declared.line.Under.TheVariants.{Own as OwnKey, Session}
 use Rattle.tickets.specs.Term.{Term, Gets, even, has}
@@ -37,9 +35,9 @@ use Rattle.tickets.proofs.Bools.{or-false-left}
 use Rattle.rows.specs.Name.{Bytes, Naming, own_of}
 use Rattle.rows.specs.Word.{words_of, told_sent, told_drawn, reply_sent, reply_drawn, ticket_term, letter_term, asking_term, login_term, receipt_term, answer_sent}
 use Rattle.rows.specs.Setting.{Setting}
-use Rattle.rows.specs.System.{System, Box, Act, at, step, run, Can, Possible, New, Wanting, HeardLogin, HeardLetter, HeardAtHouse, HeardAtService, wants, logs_in, takes, asks_house, asks, with-home, with-side, with-box, with-sent}
+use Rattle.rows.specs.System.{System, Box, at, step, run, Can, Possible, New, wants, logs_in, takes, asks_house, asks, with-home, with-box, with-sent}
 use Rattle.rows.specs.Row.{Deed, deed_told, deeds, Wanted, line_told, lines}
-use Rattle.rows.specs.Served.{Ready, Ends, Same, Served, first_login, house_ticket, house_letter, house_asking, service_ticket, service_letter, service_asking, new_deed, wanted_line, six_calls, six_sent}
+use Rattle.rows.specs.Served.{Ready, Served, first_login, house_ticket, house_letter, house_asking, service_ticket, service_letter, service_asking, new_deed, wanted_line, six_calls, six_sent}
 use Rattle.rows.proofs.Names.{same_refl}
 use Rattle.rows.proofs.ServedSteady.{Steady, row-steady, at-either, unless-either, below-take}
 use Rattle.rows.proofs.ServedActs.{line-answer, line_after, login-answer, login-after, letter-answer, letter-after, oldest-newest, not-under-way, HouseFine, house-answer, house-after, given_for, ServiceFine, service-answer}

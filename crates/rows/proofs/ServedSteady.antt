@@ -1,5 +1,5 @@
 -- What holds of every row that can happen: one tick for all, own keys in boxes and accounts, and old names for the numbers under way. Assumes nothing.
-use Rattle.std.proofs.Common.{◌≡◌, ℕ, zero, suc, ◌+◌, ◌<◌, ◌≤◌, Bool, true, false, cond, not, ◌||◌, eqb, ltb, leb, ◌⊎◌, List, [], ◌∷◌, ◌++◌, length, get_or, take, set, replicate, Some, None, Ok, Err, filter, Option, sym, refl, ap, ◌∙◌, subst, inl, inr, arith, length-append, eq-eqb, eqb-true}
+use Rattle.std.proofs.Common.{◌≡◌, ℕ, zero, suc, ◌<◌, ◌≤◌, Bool, true, false, cond, not, ◌||◌, eqb, ◌⊎◌, List, [], ◌∷◌, ◌++◌, length, take, set, replicate, Some, None, Ok, Err, filter, Option, sym, refl, ap, ◌∙◌, subst, inl, inr, arith, length-append, eqb-true}
 use mathlib.Core.List.Memᴰ
 use mathlib.Core.List.{Memᴰ}
 use Rattle.std.specs.Str.{bytes_eq}
@@ -12,19 +12,15 @@ use Rattle.parts.specs.declared.fault.Fault.{Fault}
 use Rattle.parts.specs.declared.fault.Fault.TheVariants.{OutOfRange}
 use Rattle.parts.specs.declared.tick.Ticked.{Ticked}
 use Rattle.parts.specs.declared.tick.Ticked.TheVariants.{On, Back, Stopped}
-use Rattle.parts.specs.declared.word.Asking.{Asking}
-use Rattle.parts.specs.declared.word.Key.{Key}
 use Rattle.parts.specs.declared.word.Letter.{Letter}
-use Rattle.parts.specs.declared.word.Login.{Login}
-use Rattle.parts.specs.declared.word.Ticket.{Ticket}
 use Rattle.parts.specs.declared.word.What.{What}
 use Rattle.service_rules.specs.Service.{View, view, nobody}
 use Rattle.service_rules.specs.Service as service
-use Rattle.service_rules.specs.Side.{on_tick, set_tick, unfit}
+use Rattle.service_rules.specs.Side.{on_tick, set_tick}
 use Rattle.held.specs.declared.memory.Cut.{Cut}
 use Rattle.service_rules.specs.declared.side.Side.{Side}
 use Rattle.house_rules.specs.Account.{account_of, is_absent, key_in, unknown, own_key}
-use Rattle.house_rules.specs.Change.{changed, opened, opened_after, opened_from, shut, shut_after, shut_from, closed_of}
+use Rattle.house_rules.specs.Change.{changed, opened, opened_after, shut, shut_after, closed_of}
 use Rattle.house_rules.specs.declared.change.Changed.{Changed}
 use Rattle.house_rules.specs.declared.change.Changed.TheVariants.{Done, Refused, Same}
 use Rattle.house_rules.specs.House.{Home, readable}
@@ -39,7 +35,7 @@ use Rattle.box_rules.specs.declared.line.Pending.{Pending}
 use Rattle.box_rules.specs.declared.line.Under.{Under}
 use Rattle.box_rules.specs.declared.line.Under.TheVariants.{Own as OwnKey, Session}
 use Rattle.tickets.specs.Term.{Term, even}
-use Rattle.tickets.proofs.Bools.{clash, either, or-false-left, or-false-right}
+use Rattle.tickets.proofs.Bools.{clash, or-false-left, or-false-right}
 use Rattle.rows.specs.Name.{Bytes, Naming, own_of}
 use Rattle.rows.specs.Word.{told_sent, told_drawn, reply_sent, reply_drawn, answer_sent}
 use Rattle.rows.specs.Setting.{Setting}

@@ -1,11 +1,9 @@
 -- What the house and a service decide, as events of the model. Assumes nothing.
-use Rattle.std.proofs.Common.{◌≡◌, ℕ, suc, ◌+◌, ◌-◌, ◌<◌, ◌≤◌, Bool, true, false, cond, not, ◌&&◌, ◌||◌, eqb, ltb, leb, ◌⊎◌, List, [], ◌∷◌, ◌++◌, length, Some, None, Option, sym, refl, ap, ◌∙◌, subst, inl, inr, arith, eq-eqb, eqb-true}
-use mathlib.Core.List.{Memᴰ}
-use Rattle.std.proofs.lemmas.Bool.{leb-true, leb-false, ltb-true, ltb-false, and_parts}
-use Rattle.parts.specs.Condition.{first_fault, row}
+use Rattle.std.proofs.Common.{◌≡◌, ℕ, ◌-◌, ◌<◌, ◌≤◌, Bool, true, false, cond, not, ◌&&◌, eqb, leb, ◌⊎◌, List, length, None, sym, refl, ap, ◌∙◌, subst, inl, inr, arith, eq-eqb, eqb-true}
+use Rattle.std.proofs.lemmas.Bool.{leb-true, ltb-false}
+use Rattle.parts.specs.Condition.{first_fault}
 use Rattle.parts.specs.Tick.{lately, over}
 use Rattle.parts.proofs.Conditions.{passed}
-use Rattle.parts.specs.declared.condition.Condition.{Condition}
 use Rattle.parts.specs.declared.word.Key.{Key}
 use Rattle.parts.specs.declared.word.Ticket.{Ticket}
 use Rattle.parts.specs.declared.word.Asking.{Asking}
@@ -17,16 +15,15 @@ use Rattle.house_rules.specs.Account.{closed, unknown, own_key}
 use Rattle.house_rules.specs.House.{Home, for_house, wanted, readable, missing, misled}
 use Rattle.house_rules.specs.House as house
 use Rattle.tickets.specs.Term.{Term, Num, Own, Gets}
-use Rattle.tickets.specs.Term
-use Rattle.tickets.specs.State.{Rules, Lately, State}
+use Rattle.tickets.specs.State.{Lately, State}
 use Rattle.tickets.specs.Event
 use Rattle.tickets.specs.Event.{body_term, Does, Serves, HearsLogin, DoneBefore, ticket, login}
 use Rattle.tickets.proofs.Bools.{clash, either, or-false-left, or-false-right}
-use Rattle.rows.specs.Name.{Bytes, Naming, own_of, spell}
-use Rattle.rows.specs.Word.{body_of, what_term, words_of, ticket_term, asking_term, login_term}
+use Rattle.rows.specs.Name.{Naming, own_of, spell}
+use Rattle.rows.specs.Word.{body_of, words_of, ticket_term, asking_term, login_term}
 use Rattle.rows.specs.Setting.{Setting, rules_of}
-use Rattle.rows.proofs.Noting.{Notes, not_new}
-use Rattle.rows.proofs.Matches.{HomeOk, SideOk, AccountOk}
+use Rattle.rows.proofs.Noting.{not_new}
+use Rattle.rows.proofs.Matches.{HomeOk, SideOk}
 
 -- tests that fail and pass
 pub not-false : (b : Bool) → not b ≡ false → b ≡ true

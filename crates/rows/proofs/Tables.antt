@@ -1,10 +1,9 @@
 -- The tables of a box, and what an asking for the house says. Assumes nothing.
-use Rattle.std.proofs.Common.{◌≡◌, ℕ, zero, suc, ◌+◌, ◌*◌, ◌/◌, ◌%◌, ◌<◌, ◌≤◌, Bool, true, false, cond, not, ◌&&◌, ◌||◌, eqb, ◌⊎◌, List, [], ◌∷◌, ◌++◌, length, get_or, take, set, replicate, Some, None, filter, Option, sym, refl, ap, ◌∙◌, subst, inl, inr, arith, length-set, get_or-set_other, get_or-set_same, eq-eqb, eqb-true}
+use Rattle.std.proofs.Common.{◌≡◌, ℕ, zero, suc, ◌+◌, ◌*◌, ◌/◌, ◌%◌, ◌<◌, Bool, true, false, cond, not, eqb, ◌⊎◌, List, [], ◌∷◌, length, get_or, take, set, replicate, Some, None, Option, sym, refl, ap, ◌∙◌, subst, inl, inr, arith, length-set, get_or-set_other, get_or-set_same}
 use mathlib.Core.List.Memᴰ
 use mathlib.Core.List.{Memᴰ}
 use lib.ListN.{length-replicate}
 use Rattle.std.specs.Str.{bytes_eq}
-use Rattle.parts.specs.declared.word.Key.{Key}
 use Rattle.parts.specs.declared.word.Number.{Number}
 use Rattle.box_rules.specs.Chest.{two_bytes}
 use Rattle.box_rules.specs.Line.{pass_of, pass_by}
@@ -13,15 +12,13 @@ use Rattle.box_rules.specs.declared.line.Held.{Held}
 use Rattle.box_rules.specs.declared.line.Pass.{Pass}
 use Rattle.box_rules.specs.declared.line.Pending.{Pending}
 use Rattle.box_rules.specs.declared.line.Sought.{Sought}
-use Rattle.box_rules.specs.declared.line.Sought.TheVariants.{Login, AtHouse}
 use Rattle.tickets.specs.Term.{Term, Num, Gets, num, pair}
 use Rattle.tickets.specs.Term
 use Rattle.tickets.specs.State.{is_in}
 use Rattle.tickets.proofs.Bools.{clash, either}
 use Rattle.tickets.proofs.Steps.{is_in-cases}
 use Rattle.rows.specs.Name.{Bytes, spell}
-use Rattle.rows.proofs.Names.{same-eq, same_refl}
-use Rattle.rows.proofs.Sides.{and_left, and_right, not-false}
+use Rattle.rows.proofs.Names.{same_refl}
 
 -- whatever is spelled anybody can write
 pub gets-spell : (air : List Term) (bs : Bytes) → Gets air (spell bs)

@@ -1,47 +1,44 @@
 -- A letter at a box: its login or asking has its letter, and whom the ticket is for is asked. Assumes nothing.
-use Rattle.std.proofs.Common.{◌≡◌, ℕ, suc, ◌+◌, ◌*◌, ◌<◌, ◌≤◌, Bool, true, false, cond, not, ◌&&◌, ◌||◌, eqb, ◌⊎◌, List, [], ◌∷◌, ◌++◌, length, get_or, is_some, Some, None, Option, sym, refl, ap, ◌∙◌, subst, inl, inr, arith, eq-eqb, eqb-true}
+use Rattle.std.proofs.Common.{◌≡◌, ℕ, suc, ◌+◌, ◌*◌, Bool, true, false, cond, ◌&&◌, eqb, ◌⊎◌, List, [], ◌∷◌, ◌++◌, length, get_or, Some, None, Option, sym, refl, ap, ◌∙◌, subst, inl, inr, arith, eq-eqb, eqb-true}
 use mathlib.Core.List.Memᴰ
 use mathlib.Core.List.{Memᴰ}
 use Rattle.std.specs.Str.{bytes_eq}
 use Rattle.parts.specs.Condition.{first_fault, unless}
 use Rattle.parts.specs.Drawn.{number_of}
-use Rattle.parts.proofs.Conditions.{passed}
 use Rattle.parts.specs.declared.fault.Fault.{Fault}
 use Rattle.parts.specs.declared.word.Key.{Key as Bytes32}
 use Rattle.parts.specs.declared.word.Letter.{Letter}
 use Rattle.box_rules.specs.Chest.{two_bytes}
 use Rattle.box_rules.specs.Chest as chest
 use Rattle.box_rules.specs.Letter as letter
-use Rattle.box_rules.specs.Table.{oldest, matches, without}
+use Rattle.box_rules.specs.Table.{oldest, without}
 use Rattle.box_rules.specs.declared.answer.Answer.{Answer}
 use Rattle.box_rules.specs.declared.answer.Answer.TheVariants.{Takes, Wrong}
 use Rattle.box_rules.specs.declared.line.Held.{Held}
-use Rattle.box_rules.specs.declared.line.Line.{Line as BoxLine}
 use Rattle.box_rules.specs.declared.line.Pending.{Pending}
 use Rattle.box_rules.specs.declared.line.Sought.TheVariants.{Login, AtHouse}
 use Rattle.box_rules.specs.declared.line.Under.{Under}
 use Rattle.box_rules.specs.declared.line.Under.TheVariants.{Own as OwnKey, Session}
 use Rattle.tickets.specs.Term.{Term, Num, Own, Gets, even}
-use Rattle.tickets.specs.State.{Closing, Rules, Line, Stage, LoggingIn, AskingHouse, Wish, Key, Asked, Done, State, Safe, is_in}
+use Rattle.tickets.specs.State.{Closing, Stage, LoggingIn, AskingHouse, Wish, Key, Asked, State, Safe, is_in}
 use Rattle.tickets.specs.Event.{Event, after, Reach, new_wish, new_asked}
 use Rattle.tickets.specs.Event as events
-use Rattle.tickets.specs.Promise.{MadeUpon}
 use Rattle.tickets.proofs.Keep.{Change}
 use Rattle.tickets.proofs.Inv.{Inv}
-use Rattle.tickets.proofs.Steps.{reached, change}
+use Rattle.tickets.proofs.Reached.{reached, change}
 use Rattle.tickets.proofs.Main.{main}
-use Rattle.tickets.proofs.Bools.{clash, either, even-injective}
-use Rattle.rows.specs.Name.{Bytes, Naming, own_of, spell}
+use Rattle.tickets.proofs.Bools.{either}
+use Rattle.rows.specs.Name.{Bytes, Naming, spell}
 use Rattle.rows.specs.Word.{words_of, letter_term, asking_term, told_sent, told_drawn}
 use Rattle.rows.specs.Setting.{Setting, rules_of}
-use Rattle.rows.specs.System.{System, Box, at, with-box, with-sent, New, Alone, HeardLetter}
+use Rattle.rows.specs.System.{System, Box, with-box, with-sent, New, Alone, HeardLetter}
 use Rattle.rows.specs.Row.{Wanted, Deed, Given, Begun, Taken, begun_told, taken_told}
-use Rattle.rows.proofs.Pairs.{Pairs, both, At, Down, down-more, down-low, pairs-at, at_first}
-use Rattle.rows.proofs.Matches.{Matches, BoxOk, PendingOk, TicketOk, LineOk, gets_more, home_stays, side-stays, box-stays, pending-stays, ticket-stays}
-use Rattle.rows.proofs.Sides.{and_left, and_right, not-false}
+use Rattle.rows.proofs.Pairs.{Pairs, both, down-more, down-low, pairs-at, at_first}
+use Rattle.rows.proofs.Matches.{BoxOk, PendingOk, TicketOk, gets_more, home_stays, side-stays, box-stays, pending-stays, ticket-stays}
+use Rattle.rows.proofs.Sides.{and_left, and_right}
 use Rattle.rows.proofs.Names.{same-eq}
 use Rattle.rows.proofs.Tables.{put-cases, without-there, oldest-found, two_bytes_lem, not-taken-more}
-use Rattle.rows.proofs.Tied.{Tied, SameBegun, SameKey, TakenFact, unseen, deeds-stay, taken-stays}
+use Rattle.rows.proofs.Tied.{Tied, SameBegun, TakenFact, unseen, deeds-stay, taken-stays}
 use Rattle.rows.proofs.Quiet.{matches-box}
 use Rattle.rows.proofs.Doing.{at_other}
 use Rattle.rows.proofs.Wanting.{behind, untaken, drawn-is}

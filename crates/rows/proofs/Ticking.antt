@@ -1,26 +1,23 @@
 -- Everybody is told a tick. Assumes nothing.
-use Rattle.std.proofs.Common.{◌≡◌, ℕ, zero, suc, ◌+◌, ◌-◌, ◌^◌, ◌<◌, ◌≤◌, Bool, true, false, cond, ltb, leb, ◌⊎◌, List, [], ◌∷◌, ◌++◌, sym, refl, ap, ◌∙◌, subst, inl, inr, arith}
-use mathlib.Core.List.{Memᴰ}
-use Rattle.std.proofs.lemmas.Bool.{leb-true, leb-false, ltb-true, ltb-false}
+use Rattle.std.proofs.Common.{◌≡◌, ℕ, zero, suc, ◌+◌, ◌-◌, ◌^◌, ◌≤◌, Bool, true, false, cond, ltb, leb, List, ◌∷◌, sym, refl, ap, ◌∙◌, subst, arith}
+use Rattle.std.proofs.lemmas.Bool.{ltb-false}
 use Rattle.parts.specs.Tick.{clock}
 use Rattle.parts.specs.declared.tick.Ticked.{Ticked}
 use Rattle.parts.specs.declared.tick.Ticked.TheVariants.{On, Back, Stopped}
-use Rattle.service_rules.specs.Service.{View, view}
+use Rattle.service_rules.specs.Service.{view}
 use Rattle.service_rules.specs.Side.{on_tick, set_tick}
-use Rattle.house_rules.specs.House.{Home}
 use Rattle.box_rules.specs.Chest.{box_on_tick}
-use Rattle.tickets.specs.State.{Rules, Closing, Done, State}
+use Rattle.tickets.specs.State.{Rules, Closing, State}
 use Rattle.tickets.specs.Event.{Event, after, Reach}
 use Rattle.tickets.specs.Event
-use Rattle.tickets.proofs.Bools.{clash}
 use Rattle.tickets.proofs.Known.{Grows}
 use Rattle.rows.specs.Name.{Naming}
 use Rattle.rows.specs.Setting.{Setting, rules_of}
-use Rattle.rows.specs.System.{System, Box, home-side}
+use Rattle.rows.specs.System.{System, home-side}
 use Rattle.rows.specs.Row.{Wanted, Deed, Given, Begun, Taken}
 use Rattle.rows.proofs.Pairs.{down-more}
 use Rattle.rows.proofs.Noting.{notes-later}
-use Rattle.rows.proofs.Matches.{told_box, Matches, HomeOk, SideOk, BoxOk, PendingOk, TicketOk, ClosedBy, pending-stays, ticket-stays}
+use Rattle.rows.proofs.Matches.{told_box, HomeOk, SideOk, BoxOk, pending-stays, ticket-stays}
 use Rattle.rows.proofs.Tied.{Tied, unseen, deeds-stay}
 
 -- the model after so many ticks

@@ -1,17 +1,13 @@
 -- A row of acts beside a run of the model: what the row tells is what the model knows. Assumes nothing.
-use Rattle.std.proofs.Common.{◌≡◌, ℕ, suc, ◌+◌, ◌<◌, ◌≤◌, Bool, true, false, cond, ◌⊎◌, List, [], ◌∷◌, ◌++◌, length, sym, refl, ap, ◌∙◌, subst, inl, inr, arith}
+use Rattle.std.proofs.Common.{◌≡◌, ℕ, suc, ◌<◌, ◌≤◌, Bool, true, false, List, arith}
 use mathlib.Core.List.{Memᴰ}
-use Rattle.tickets.specs.Term.{Term, even}
-use Rattle.tickets.specs.State.{Closing, Rules, Line, Stage, LoggingIn, AskingHouse, Wish, Key, Asked, Done, State, Safe}
-use Rattle.tickets.specs.Event.{Event, May, after, Reach}
-use Rattle.tickets.specs.Event
+use Rattle.tickets.specs.Term.{even}
+use Rattle.tickets.specs.State.{Closing, Line, Stage, LoggingIn, AskingHouse, Wish, Key, Asked, Done, State, Safe}
+use Rattle.tickets.specs.Event.{Event, Reach}
 use Rattle.tickets.specs.Promise.{Answers, AsWanted}
 use Rattle.tickets.proofs.Known.{Grows}
-use Rattle.tickets.proofs.Keep.{Change, answers-grows}
-use Rattle.tickets.proofs.Keep
-use Rattle.tickets.proofs.Inv.{Inv}
-use Rattle.tickets.proofs.Steps.{reached, change}
-use Rattle.rows.specs.Name.{Bytes, Naming, spell}
+use Rattle.tickets.proofs.Keep.{answers-grows}
+use Rattle.rows.specs.Name.{Naming, spell}
 use Rattle.rows.specs.Setting.{Setting, rules_of}
 use Rattle.rows.specs.System.{System}
 use Rattle.rows.specs.Row.{Wanted, Deed, Given, Begun, Taken, SafeDeed}

@@ -1,5 +1,5 @@
 -- A reader's line at a box: a login, an asking for the house, or an asking to a service. Assumes nothing.
-use Rattle.std.proofs.Common.{◌≡◌, ℕ, suc, ◌+◌, ◌*◌, ◌<◌, ◌≤◌, Bool, true, false, cond, not, ◌&&◌, ◌||◌, eqb, ◌⊎◌, List, [], ◌∷◌, ◌++◌, length, get_or, Some, None, Option, sym, refl, ap, ◌∙◌, subst, inl, inr, arith, eq-eqb, eqb-true}
+use Rattle.std.proofs.Common.{◌≡◌, ℕ, suc, ◌+◌, ◌*◌, Bool, true, false, cond, not, ◌||◌, eqb, ◌⊎◌, List, [], ◌∷◌, ◌++◌, length, get_or, Some, None, Option, sym, refl, ap, ◌∙◌, subst, inl, inr, arith, eq-eqb, eqb-true}
 use mathlib.Core.List.Memᴰ
 use mathlib.Core.List.{Memᴰ}
 use Rattle.parts.specs.Condition.{first_fault, unless}
@@ -9,32 +9,29 @@ use Rattle.parts.specs.declared.fault.Fault.{Fault}
 use Rattle.parts.specs.declared.fault.Fault.TheVariants.{OutOfRange}
 use Rattle.parts.specs.declared.word.Key.{Key as Bytes32}
 use Rattle.parts.specs.declared.word.What.{What}
-use Rattle.house_rules.specs.House.{for_house, wanted}
 use Rattle.box_rules.specs.Chest.{two_bytes, what_of, tick_of}
 use Rattle.box_rules.specs.Chest as chest
 use Rattle.box_rules.specs.Line as line
-use Rattle.box_rules.specs.declared.answer.Answer.{Answer}
 use Rattle.box_rules.specs.declared.answer.Answer.TheVariants.{Asks, LogsIn, Wrong}
 use Rattle.box_rules.specs.declared.line.Held.{Held}
-use Rattle.box_rules.specs.declared.line.Line.{Line as BoxLine}
 use Rattle.box_rules.specs.declared.line.Pass.{Pass}
 use Rattle.box_rules.specs.declared.line.Pending.{Pending}
 use Rattle.tickets.specs.Term.{Term, Num, Own, Gets, even}
-use Rattle.tickets.specs.State.{Closing, Rules, Line, Stage, LoggingIn, AskingHouse, Wish, Asked, Done, State, is_in}
+use Rattle.tickets.specs.State.{Closing, Line, LoggingIn, AskingHouse, Wish, Asked, State, is_in}
 use Rattle.tickets.specs.Event.{Event, after, Reach, new_line, new_wish, new_asked}
 use Rattle.tickets.specs.Event as events
 use Rattle.tickets.proofs.Keep.{Change}
 use Rattle.tickets.proofs.Inv.{Inv}
-use Rattle.tickets.proofs.Steps.{reached, change}
+use Rattle.tickets.proofs.Reached.{reached, change}
 use Rattle.tickets.proofs.Bools.{clash, either, or_cases, or-false-left, or-false-right}
 use Rattle.rows.proofs.Sides.{not-false}
-use Rattle.rows.specs.Name.{Bytes, Naming, own_of, spell}
-use Rattle.rows.specs.Word.{words_of, what_term, login_term, asking_term, told_sent, told_drawn}
+use Rattle.rows.specs.Name.{Bytes, Naming, spell}
+use Rattle.rows.specs.Word.{words_of, login_term, asking_term, told_sent, told_drawn}
 use Rattle.rows.specs.Setting.{Setting, rules_of}
-use Rattle.rows.specs.System.{System, Box, at, with-box, with-sent, New, Alone, Wanting}
+use Rattle.rows.specs.System.{System, Box, with-box, with-sent, New, Alone, Wanting}
 use Rattle.rows.specs.Row.{Wanted, Deed, Given, Begun, Taken, line_told, begun_told}
-use Rattle.rows.proofs.Pairs.{Pairs, both, At, there, Down, down-more}
-use Rattle.rows.proofs.Matches.{Matches, BoxOk, PendingOk, TicketOk, LineOk, home_stays, side-stays, box-stays, pending-stays, ticket-stays}
+use Rattle.rows.proofs.Pairs.{Pairs, both, there, down-more}
+use Rattle.rows.proofs.Matches.{BoxOk, PendingOk, TicketOk, home_stays, side-stays, box-stays}
 use Rattle.rows.proofs.Tables.{gets-spell, put-cases, pass-by, two_bytes_lem}
 use Rattle.rows.proofs.Tied.{Tied, SameBegun, unseen, deeds-stay, taken-stays}
 use Rattle.rows.proofs.Quiet.{at-cases, matches-box}

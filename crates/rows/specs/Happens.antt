@@ -16,7 +16,7 @@ use Rattle.held.specs.declared.memory.Cut.TheVariants.{Junk}
 use Rattle.house_rules.specs.Account.{closed}
 use Rattle.box_rules.specs.Chest.{two_bytes}
 use Rattle.box_rules.specs.declared.line.Under.TheVariants.{Own as OwnKey, Session}
-use Rattle.rows.specs.Name.{Bytes, Naming}
+use Rattle.rows.specs.Name.{Naming}
 use Rattle.rows.specs.Setting.{Setting}
 use Rattle.rows.specs.System.{Act, House, Service, Reader, tells, hands, steals, opens, closes, wants, logs_in, asks_house, asks, takes, crashes, Possible, run}
 use Rattle.rows.specs.Row.{Wanted, Deed, lines, deeds}

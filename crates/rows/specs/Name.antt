@@ -5,7 +5,7 @@
 -- draw_name ds bs     the place of these bytes among the draws, the newest first, counted from the oldest
 -- name_of own ds bs   what key or number these bytes are: an own key, a draw, or what anybody can write
 -- Naming             a way to name keys and numbers by which different ones have different names
-use Rattle.std.specs.Prelude.{◌≡◌, ℕ, suc, ◌<◌, Bool, cond, List, [], ◌∷◌, ◌++◌, length, replicate, Some, None, Option, slice_index_or}
+use Rattle.std.specs.Prelude.{◌≡◌, ℕ, suc, ◌<◌, cond, List, [], ◌∷◌, ◌++◌, length, replicate, Some, None, Option, slice_index_or}
 use Rattle.std.specs.Str.{bytes_eq}
 use Rattle.parts.specs.declared.word.Key.{Key}
 use Rattle.tickets.specs.Term.{Term, Num, Own, Pair, even}

@@ -1,12 +1,8 @@
 -- What a row of acts tells: lines, deeds, keys given, logins and askings begun, letters taken; and what is promised of them.
 -- Newest first: in e ∷ es, es came before e; a place is how many acts came before. The proofs are in proofs/Promises.antt. Assumes nothing.
-use Rattle.std.specs.Prelude.{◌≡◌, ℕ, suc, ◌+◌, ◌<◌, ◌≤◌, Bool, true, false, cond, List, [], ◌∷◌, ◌++◌, length, Option}
+use Rattle.std.specs.Prelude.{◌≡◌, ℕ, ◌+◌, ◌<◌, ◌≤◌, Bool, true, false, cond, List, [], ◌∷◌, ◌++◌, length}
 use mathlib.Core.List.{Memᴰ}
-use Rattle.parts.specs.declared.word.Asking.{Asking}
 use Rattle.parts.specs.declared.word.Letter.{Letter}
-use Rattle.parts.specs.declared.word.Login.{Login}
-use Rattle.parts.specs.declared.word.Ticket.{Ticket}
-use Rattle.parts.specs.declared.word.What.{What}
 use Rattle.service_rules.specs.Service as service
 use Rattle.service_rules.specs.declared.answer.Answer.{Answer}
 use Rattle.service_rules.specs.declared.answer.Answer.TheVariants.{Done as Did, Refused}
@@ -18,7 +14,6 @@ use Rattle.box_rules.specs.Line as line
 use Rattle.box_rules.specs.Letter as letter
 use Rattle.box_rules.specs.declared.answer.Answer as Told
 use Rattle.box_rules.specs.declared.answer.Answer.TheVariants as told
-use Rattle.box_rules.specs.declared.line.Under.{Under}
 use Rattle.tickets.specs.Term.{Term, Gets}
 use Rattle.tickets.specs.State.{Done, State, Safe, is_in}
 use Rattle.tickets.specs.Event.{Event, Reach}

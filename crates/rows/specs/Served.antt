@@ -6,7 +6,7 @@
 -- Ready s a v w                  what the six acts need
 -- Same s s'                      nothing was stolen, opened or closed, and no tick was told
 -- Served                         in every row that can happen, whoever is ready is served, at the same tick, and nothing else is done
-use Rattle.std.specs.Prelude.{◌≡◌, ℕ, suc, ◌+◌, ◌-◌, ◌^◌, ◌<◌, ◌≤◌, Bool, true, false, List, [], ◌∷◌, ◌++◌, length, drop, None}
+use Rattle.std.specs.Prelude.{◌≡◌, ℕ, suc, ◌+◌, ◌-◌, ◌^◌, ◌<◌, ◌≤◌, true, false, List, [], ◌∷◌, ◌++◌, length, drop, None}
 use Rattle.parts.specs.Drawn.{number_of, key_of}
 use Rattle.parts.specs.declared.word.Asking.{Asking}
 use Rattle.parts.specs.declared.word.Letter.{Letter}

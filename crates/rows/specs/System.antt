@@ -4,14 +4,11 @@
 -- Act          what happens: a reader's line, a word that was opened, a tick, an account, a theft, a crash, a device, drawn bytes
 -- step         what an act leaves
 -- Can          what an act rests on: what is heard can be worked out of all that was sent and stolen; draws are new
-use Rattle.std.specs.Prelude.{◌≡◌, ℕ, suc, ◌+◌, ◌<◌, ◌≤◌, Bool, true, false, cond, List, [], ◌∷◌, ◌++◌, length, replicate, Ok, Err, Option, Result, ◌==◌}
-use Rattle.parts.specs.Tick.{clock}
+use Rattle.std.specs.Prelude.{◌≡◌, ℕ, suc, ◌<◌, Bool, true, false, cond, List, [], ◌∷◌, ◌++◌, length, replicate, Ok, Err, Option, Result, ◌==◌}
 use Rattle.parts.specs.declared.account.Account.{Account}
 use Rattle.parts.specs.declared.account.Account.TheVariants.{Absent}
 use Rattle.parts.specs.declared.account.Entry.{Entry}
 use Rattle.parts.specs.declared.fault.Fault.{Fault}
-use Rattle.parts.specs.declared.tick.Ticked.{Ticked}
-use Rattle.parts.specs.declared.tick.Ticked.TheVariants.{On, Back, Stopped}
 use Rattle.parts.specs.declared.word.Key.{Key}
 use Rattle.parts.specs.declared.word.Ticket.{Ticket}
 use Rattle.parts.specs.declared.word.Letter.{Letter}
@@ -34,7 +31,6 @@ use Rattle.box_rules.specs.Letter as letter
 use Rattle.box_rules.specs.declared.line.Under.{Under}
 use Rattle.box_rules.specs.declared.line.Under.TheVariants.{Own as OwnKey, Session}
 use Rattle.tickets.specs.Term.{Term, Gets, even}
-use Rattle.tickets.specs.Term
 use Rattle.rows.specs.Name.{Bytes, Naming, own_of}
 use Rattle.rows.specs.Word.{ticket_term, letter_term, asking_term, login_term, reply_sent, answer_sent, told_sent, told_drawn, reply_drawn}
 use Rattle.rows.specs.Setting.{Setting, Writing}

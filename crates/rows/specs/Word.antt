@@ -2,7 +2,7 @@
 --
 -- ticket_term, letter_term, asking_term, login_term, receipt_term    a lock with this key and inside
 -- what_term q                                                    what an asking asks: a service's number, of the house; words, of a service
-use Rattle.std.specs.Prelude.{ℕ, cond, List, [], ◌∷◌, take}
+use Rattle.std.specs.Prelude.{cond, List, [], ◌∷◌, take}
 use Rattle.parts.specs.declared.word.Key.{Key}
 use Rattle.parts.specs.declared.word.Ticket.{Ticket}
 use Rattle.parts.specs.declared.word.Letter.{Letter}
@@ -10,7 +10,6 @@ use Rattle.parts.specs.declared.word.Asking.{Asking}
 use Rattle.parts.specs.declared.word.Login.{Login}
 use Rattle.parts.specs.declared.word.Receipt.{Receipt}
 use Rattle.parts.specs.declared.word.What.{What}
-use Rattle.parts.specs.declared.lock.Lock.{Lock}
 use Rattle.house_rules.specs.House.{for_house, wanted}
 use Rattle.house_rules.specs.declared.reply.Reply.{Reply}
 use Rattle.house_rules.specs.declared.reply.Reply.TheVariants.{Granted, Refused as NotGranted}
@@ -19,7 +18,6 @@ use Rattle.service_rules.specs.declared.answer.Answer.TheVariants.{Done, Refused
 use Rattle.box_rules.specs.declared.answer.Answer as Told
 use Rattle.box_rules.specs.declared.answer.Answer.TheVariants as told
 use Rattle.tickets.specs.Term.{Term, Num, Pair}
-use Rattle.tickets.specs.Term
 use Rattle.tickets.specs.Event.{Body, body_term, letter, asking}
 use Rattle.rows.specs.Name.{Bytes, spell}
 

@@ -1,7 +1,5 @@
 use Rattle.std.proofs.Common.{ℕ, List, take, drop, ap, ◌∙◌, drop-drop}
 use Rattle.box_rules.proofs.ask.draw.Goals as goal
-use Rattle.parts.specs.declared.word.Number.{Number}
-use Rattle.parts.specs.declared.word.Salt.{Salt}
 
 pub returns : goal.returns
 returns g c =

@@ -1,6 +1,6 @@
 use Rattle.box_rules.proofs.Taken.{by-table, met, never, takes}
 use Rattle.box_rules.proofs.chest.Chest.take_letter.Goals as goal
-use Rattle.box_rules.specs.Chest.{Boxed, boxed}
+use Rattle.box_rules.specs.Chest.{boxed}
 use Rattle.box_rules.specs.declared.answer.Answer.TheVariants.{Wrong}
 use Rattle.std.proofs.Common.{[], Some, refl, ap, arith}
 

@@ -1,5 +1,5 @@
-use Rattle.std.proofs.Common.{ℕ, Some, refl, ap, ◌∙◌}
-use Rattle.box_rules.proofs.Wanted.{by-table, line-drawn, out_of_range, sends-asking, sends-login}
+use Rattle.std.proofs.Common.{Some, refl, ap, ◌∙◌}
+use Rattle.box_rules.proofs.Wanted.{by-table, line-drawn, sends-asking, sends-login}
 use Rattle.box_rules.proofs.chest.Chest.want.Goals as goal
 use Rattle.box_rules.specs.Chest.{boxed}
 use Rattle.box_rules.specs.Line.{pass_by}
