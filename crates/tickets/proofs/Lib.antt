@@ -4,6 +4,7 @@ pub mod Known
 pub mod Inv
 pub mod Keep
 pub mod Hearing
+pub mod Deeds
 pub mod Steps
 pub mod Reached
 pub mod SixEvents

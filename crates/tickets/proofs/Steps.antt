@@ -10,14 +10,15 @@ use lib.Dec.{eqb}
 use borrow.Author.Tests.{eqb-true, eq-eqb}
 use Rattle.tickets.specs.Term.{Term, Num, Own, Pair, Gets, even}
 use Rattle.tickets.specs.State.{Rules, Lately, Line, LoggingIn, AskingHouse, Wish, Key, Asked, Closing, State, Safe, is_in, is_closed}
-use Rattle.tickets.specs.Event.{Body, body_of, ticket, letter_of, asking_of, login_of, receipt, Event, after, HearsLogin, Hears, Serves, Does, Takes, HoldsHouse, HoldsService, Wants, new_line, new_wish, new_asked, new_key, new_done}
-use Rattle.tickets.specs.Promise.{Answers, AsWanted, MadeUpon, MadeFor, CameBy, Began, WantedBy, GaveKey}
+use Rattle.tickets.specs.Event.{Body, body_of, ticket, letter_of, asking_of, login_of, receipt, Event, after, HearsLogin, Serves, Does, Takes, HoldsHouse, HoldsService, Wants, new_line, new_wish, new_asked, new_key, new_done}
+use Rattle.tickets.specs.Promise.{AsWanted, MadeUpon, MadeFor, CameBy, Began, WantedBy, GaveKey}
 use Rattle.tickets.proofs.Bools.{Sub, clash, or_cases, or-false-left, or-false-right, is_in-here, sub_refl, sub_more}
 use Rattle.tickets.proofs.Grown.{Grown, same, more, grown-old}
 use Rattle.tickets.proofs.Known.{Known, Grows, known-grows}
-use Rattle.tickets.proofs.Inv.{GivenKey, Under, by-own, by-session, by-forged, HoldsKey, key-given, key-forged, AskedOk, Ticketed, ticket-made, ticket-forged, DoneOk, Inv, own-stolen, gets-known, login-cases}
+use Rattle.tickets.proofs.Inv.{GivenKey, Under, by-own, by-session, by-forged, HoldsKey, key-given, key-forged, AskedOk, Inv, own-stolen, gets-known, login-cases}
 use Rattle.tickets.proofs.Keep.{Change, NewLine, NewWish, NewKey, NewAsked, NewDone, upon-grows, answers-grows, keep}
 use Rattle.tickets.proofs.Keep
+use Rattle.tickets.proofs.Deeds.{done_ok}
 use Rattle.tickets.proofs.Hearing
 use Rattle.tickets.proofs.Hearing.{Sent, ticket-used, asking-safe, first-time, number-heard, login-letter, asking-letter}
 
@@ -518,41 +519,6 @@ module _ {r : Rules} {s : State} (i : Inv r s) where
         },
       )
 
-  -- what is done upon a ticket and an asking that were heard
-  done_ok : (t : State) → Grows s t → (b : Body) (n w : Term) (at : ℕ) → Hears r s b n w at
-      → (b.service ≡ r.house → (m : Key) × GaveKey t (new_done s b n w) m) → DoneOk r t (new_done s b n w)
-  done_ok t g b n w at h gave =
-      record {
-        past = g.now-le;
-        thefts = g.thefts;
-        number = known-grows g (number-heard i b.key b.service n w at (gets-known i h.asking-heard));
-        ticketed = ticketed (ticket-used i b n w at h);
-        answers = λ safe. answers (asking-safe i b n w at h safe);
-        gave = gave;
-      }
-    where
-      ticketed : ((m : Key) × MadeFor s b m) ⊎ (Known r s b.key × (is_in (r.key_of b.service) s.stolen ≡ true)) → Ticketed r t (new_done s b n w)
-      ticketed (inl (m, f)) =
-          let e = f.same-until in
-          let good = h.is-good in
-          ticket-made m (record { known = g.made m f.known; for-reader = f.for-reader; for-service = f.for-service; same_key = f.same_key }) (omega arith)
-      ticketed (inr (k, st)) = ticket-forged (known-grows g k) st
-
-      answers : (q : Asked) × Sent s b n w at q → (q : Asked) × Answers r t (new_done s b n w) q
-      answers (q, f) = (
-        q,
-        record {
-          known = g.asked q f.known;
-          by-reader = f.by-reader;
-          of-service = f.of-service;
-          same_key = f.same_key;
-          same_number = f.same_number;
-          in_words = f.in_words;
-          in-time = subst (λ (x : ℕ). Lately 0 r.lag s.now x) (sym f.at_tick) h.in-time;
-          from-line = g.lines q.line (i.asked q f.known).line;
-        },
-      )
-
   pub step-does : (b : Body) (n w : Term) (at : ℕ) → Does r s b n w at → Change r s (after r (Event.does b n w at) s)
   step-does b n w at h =
       record {
@@ -565,7 +531,7 @@ module _ {r : Rules} {s : State} (i : Inv r s) where
         asked = same;
         done =
             more (new_done s b n w)
-            (record { ok = done_ok t g b n w at h.hears (λ e. absurd (h.a-service e)); once = λ e k safe. first-time i b n w at h.hears safe e k });
+            (record { ok = done_ok i t g b n w at h.hears (λ e. absurd (h.a-service e)); once = λ e k safe. first-time i b n w at h.hears safe e k });
         taken = taken-below t (omega arith);
       }
     where
@@ -608,7 +574,7 @@ module _ {r : Rules} {s : State} (i : Inv r s) where
         asked = same;
         done =
             more (new_done s b n (Num v))
-            (record { ok = done_ok t g b n (Num v) at h.hears (λ _. gave); once = λ e k safe. first-time i b n (Num v) at h.hears safe e k });
+            (record { ok = done_ok i t g b n (Num v) at h.hears (λ _. gave); once = λ e k safe. first-time i b n (Num v) at h.hears safe e k });
         taken = taken-below t (omega arith);
       }
     where
