@@ -3,7 +3,7 @@ use Rattle.printed.proofs.text.Text.octets.Goals as goal
 use Rattle.printed.specs.Printed.{shown}
 use Rattle.std.proofs.lemmas.List.{take_all}
 use Rattle.words.specs.Laws.{hex_text}
-use Rattle.std.proofs.Common.{◌++◌, get_or, refl, ap, ◌∙◌, arith}
+use Rattle.std.proofs.Common.{◌++◌, get_or, refl, ap, ◌∙◌}
 
 pub loop-byte-preserved : goal.loop-byte-preserved
 loop-byte-preserved c =
