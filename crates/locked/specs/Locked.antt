@@ -8,7 +8,7 @@
 -- refusal_word f         the word of a refusal
 -- words_in w             the words of an asking; what_in bs the same, as a value of fixed size
 use Rattle.std.specs.Prelude.{ℕ, ◌-◌, List, ◌++◌, length, take, replicate, Some, None, Ok, Err, Option, Result}
-use Rattle.contents.specs.Inside.{Asked, read_asking, read_letter, read_login, read_receipt, read_ticket, write_asking, write_letter, write_login, write_receipt, write_ticket}
+use Rattle.contents.specs.Inside.{Asked, read_asking, read_login, read_ticket, write_asking, write_letter, write_login, write_receipt, write_ticket}
 use Rattle.parts.specs.Fault.{class_of}
 use Rattle.parts.specs.declared.fault.Fault.{Fault}
 use Rattle.parts.specs.declared.fault.Fault.TheVariants.{LockFails}
