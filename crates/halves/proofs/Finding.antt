@@ -4,7 +4,7 @@ use Rattle.halves.proofs.Written.{decoded-after, part-after}
 use Rattle.halves.specs.Blocks.{Blocks, block, other, over, put}
 use Rattle.halves.specs.Half.{Measure, Steady, decoded, half}
 use Rattle.halves.specs.Halves.{good_of, known_of, last_of, next_of, part_of, payload_of, standing, which_of}
-use Rattle.halves.specs.Laws.{Cut, Failing, Fitting, Found, Junk, Junks, Knows, KnowsAt, New, Old, Recovering, Starting, Telling, Writing, after, cut_by, found}
+use Rattle.halves.specs.Laws.{Failing, Fitting, Found, Junk, Knows, KnowsAt, New, Old, Recovering, Starting, Telling, Writing, cut_by, found}
 use Rattle.halves.specs.declared.half.Half.{Half}
 use Rattle.halves.specs.declared.halves.Good.{Good}
 use Rattle.halves.specs.declared.halves.Halves.{Halves}

@@ -1,12 +1,11 @@
 -- A half that was written is read back. Assumes nothing.
-use Rattle.std.proofs.Common.{◌≡◌, ℕ, ◌+◌, ◌-◌, ◌*◌, ◌^◌, ◌<◌, ◌≤◌, Bool, true, false, cond, ◌||◌, eqb, ltb, leb, List, [], ◌∷◌, ◌++◌, length, take, drop, Some, None, Option, sym, refl, ap, ◌∙◌, zero-mul, arith}
+use Rattle.std.proofs.Common.{◌≡◌, ℕ, ◌+◌, ◌-◌, ◌*◌, ◌^◌, ◌<◌, ◌≤◌, Bool, true, false, cond, ◌||◌, eqb, leb, List, [], ◌∷◌, ◌++◌, length, take, drop, Some, None, Option, sym, refl, ap, ◌∙◌, zero-mul, arith}
 use Rattle.codec.proofs.Numbers.{number-bytes_of}
 use Rattle.contents.specs.Field.{number}
 use Rattle.halves.proofs.Parts.{length-half, length-stamp, length-sum_of}
 use Rattle.halves.specs.Blocks.{over}
 use Rattle.halves.specs.Half.{Measure, Steady, blank, decoded, fits, half, is_zero, sized, stamp, sum_of}
 use Rattle.halves.specs.Halves.{part_of}
-use Rattle.halves.specs.declared.half.Half.{Half}
 use Rattle.std.proofs.lemmas.Slice.Eq.{bytes_eq-Decides}
 use Rattle.std.proofs.lemmas.List.{append_assoc, drop_at, length-append, take_at}
 use Rattle.std.proofs.lemmas.Bool.{and_from, and_parts, eqb-true, le-leb, le-ltb}

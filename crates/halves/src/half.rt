@@ -96,7 +96,7 @@ fn with_len(block: &[u8], len: Option<usize>) -> Option<Half>
 
 // The half at the front of a block, if it is not junk.
 pub fn decode<F: Format>(format: &F, block: &[u8]) -> Option<Half>
-    ensures { result ≡ decoded (measured format.now) block.now }
+    ensures { result ≡ decoded (F.measured format.now) block.now }
 {
     if is_blank(block) {
         return None;

@@ -78,7 +78,7 @@ pub fn part(block: &[u8], len: usize) -> &[u8]
 impl Halves {
     // What stands on a device.
     pub fn read<D: Device, F: Format>(device: &D, format: &F) -> Halves
-        ensures { result ≡ standing (measured format.now) (blocks device.now) }
+        ensures { result ≡ standing (F.measured format.now) (D.blocks device.now) }
     {
         known(
             decode(format, device.read(Which::First)),
@@ -125,7 +125,7 @@ impl Halves {
 
     // The payload that counts: that of the newest good half, no bytes if there is none.
     pub fn payload<'a, D: Device>(&self, device: &'a D) -> &'a [u8]
-        ensures { result.now ≡ payload_of self.now.newest (blocks device.now) }
+        ensures { result.now ≡ payload_of self.now.newest (D.blocks device.now) }
     {
         match self.newest {
             None => &device.read(Which::First)[0..0],

@@ -14,7 +14,7 @@ use super::which::Which;
 // Writes a half with a turn, and with the payload that stands in lent bytes.
 fn put_half<D: Device>(device: &mut D, which: Which, turn: u64, bytes: &mut [u8]) -> bool
     requires { 24 ≤ length bytes.old }
-    ensures device { Writes which (half_of turn (payload_in bytes.old)) (blocks device.old) result (blocks device.new) }
+    ensures device { Writes which (half_of turn (payload_in bytes.old)) (D.blocks device.old) result (D.blocks device.new) }
     ensures bytes { bytes.new ≡ half_of turn (payload_in bytes.old) }
 {
     encode(bytes, turn);
@@ -35,7 +35,7 @@ fn half_if(written: bool, turn: u64, len: usize) -> Option<Half>
 // Makes a new device: the first half with turn 1, then the second with turn 2. One that is not written is junk.
 fn make<D: Device>(device: &mut D, bytes: &mut [u8]) -> Halves
     requires { 24 ≤ length bytes.old }
-    ensures { Makes (blocks device.old) bytes.old result (blocks device.new) bytes.new }
+    ensures { Makes (D.blocks device.old) bytes.old result (D.blocks device.new) bytes.new }
 {
     let len = bytes.len() - AROUND;
     let first = put_half(device, Which::First, 1, bytes);
@@ -52,14 +52,14 @@ fn is_full_zero(block: &[u8], most: usize) -> bool
 
 // Are both blocks of full length, and nothing but zeros?
 fn is_new<D: Device>(device: &D, most: usize) -> bool
-    ensures { result ≡ is_new most (blocks device.now) }
+    ensures { result ≡ is_new most (D.blocks device.now) }
 {
     is_full_zero(device.read(Which::First), most) && is_full_zero(device.read(Which::Second), most)
 }
 
 // Is a device to be made anew, and is there room for a half in the lent bytes?
 fn is_to_make<D: Device>(device: &D, most: usize, bytes: &[u8]) -> bool
-    ensures { result ≡ makes most (blocks device.now) bytes.now }
+    ensures { result ≡ makes most (D.blocks device.now) bytes.now }
 {
     bytes.len() >= AROUND && is_new(device, most)
 }
@@ -67,7 +67,7 @@ fn is_to_make<D: Device>(device: &D, most: usize, bytes: &[u8]) -> bool
 impl Halves {
     // Every start: a new device is made, with the payload that stands in lent bytes; any other is read.
     pub fn start<D: Device, F: Format>(device: &mut D, format: &F, bytes: &mut [u8]) -> Halves
-        ensures { Starts (makes (most format.now) (blocks device.old) bytes.old) (measured format.now) (blocks device.old) bytes.old result (blocks device.new) bytes.new }
+        ensures { Starts (makes (F.most format.now) (D.blocks device.old) bytes.old) (F.measured format.now) (D.blocks device.old) bytes.old result (D.blocks device.new) bytes.new }
     {
         if is_to_make(device, format.most(), bytes) {
             return make(device, bytes);
@@ -77,7 +77,7 @@ impl Halves {
 
     // Writes the payload that stands in lent bytes, between room for the turn and room for the sum, to the half whose turn it is. The turn moves only if the device wrote it.
     pub fn write<D: Device>(&mut self, device: &mut D, bytes: &mut [u8]) -> bool
-        ensures { Tried (target self.old bytes.old) self.old (blocks device.old) bytes.old result self.new (blocks device.new) bytes.new }
+        ensures { Tried (target self.old bytes.old) self.old (D.blocks device.old) bytes.old result self.new (D.blocks device.new) bytes.new }
     {
         if bytes.len() < AROUND {
             return false;

@@ -1,6 +1,5 @@
 use Rattle.halves.proofs.half.decode.Goals as goal
 use Rattle.halves.specs.Half.{sized}
-use Rattle.halves.specs.declared.half.Half.{Half}
 use Rattle.std.proofs.lemmas.List.{take_rest}
 use Rattle.std.proofs.Common.{ℕ, Bool, cond, drop, None, Option, sym, ap, ◌∙◌}
 

@@ -1,7 +1,7 @@
 use Rattle.halves.proofs.half.encode.Goals as goal
 use Rattle.halves.proofs.Parts.{length-stamp, without-sum}
 use Rattle.halves.specs.Half.{stamp, summed}
-use Rattle.std.proofs.Common.{◌≡◌, ℕ, ◌-◌, List, length, take, ap, ◌∙◌}
+use Rattle.std.proofs.Common.{ℕ, ◌-◌, List, length, take, ap, ◌∙◌}
 
 pub returns : goal.returns
 returns c =

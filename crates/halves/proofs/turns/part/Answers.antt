@@ -1,6 +1,6 @@
 use Rattle.halves.proofs.turns.part.Goals as goal
-use Rattle.std.proofs.lemmas.List.{drop_all, length-drop, take_all, take_rest}
-use Rattle.std.proofs.Common.{◌≡◌, ℕ, ◌-◌, ◌≤◌, List, [], length, take, drop, sym, refl, ap, ◌∙◌, arith}
+use Rattle.std.proofs.lemmas.List.{drop_all, take_all, take_rest}
+use Rattle.std.proofs.Common.{◌≡◌, ℕ, ◌-◌, ◌≤◌, [], length, take, drop, sym, ap, ◌∙◌, arith}
 
 none : (n : ℕ) → take {A = ℕ} n [] ≡ []
 none n = take_all {A = ℕ} n [] (omega arith)

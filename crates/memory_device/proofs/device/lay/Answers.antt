@@ -1,7 +1,7 @@
 use Rattle.halves.specs.Blocks.{over}
 use Rattle.memory_device.proofs.device.lay.Goals as goal
 use Rattle.std.proofs.lemmas.List.{take_at}
-use Rattle.std.proofs.Common.{◌≡◌, length, drop, ap, ◌∙◌, arith}
+use Rattle.std.proofs.Common.{length, drop, ap, ◌∙◌, arith}
 
 pub returns : goal.returns
 returns c =

@@ -1,6 +1,6 @@
 use Rattle.halves.proofs.halves.Halves.start.Goals as goal
 use Rattle.halves.specs.Halves.{Starts, makes}
-use Rattle.std.proofs.Common.{◌≡◌, ℕ, Bool, sym, refl, ap, ◌∙◌, subst}
+use Rattle.std.proofs.Common.{ℕ, Bool, sym, refl, ap, ◌∙◌, subst}
 
 pub returns-then-is_to_make : goal.returns-then-is_to_make
 returns-then-is_to_make g c =
