@@ -5,7 +5,7 @@ use Rattle.rows.specs.Happens.{setting}
 use Rattle.rows.specs.Name.{own_name}
 use Rattle.rows.proofs.HappensRow.{happens-can, n}
 use Rattle.judge.specs.Example.{Met, Worked, judge_there}
-use Rattle.judge.specs.Hearing.{FirstNamed, Introduced}
+use Rattle.judge.specs.Hearing.{Introduced}
 use Rattle.rows.specs.Happens.{happens}
 
 -- four numbers have own keys, and no two the same

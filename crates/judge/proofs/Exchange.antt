@@ -1,8 +1,8 @@
 -- A deed is judged: the oldest line that fits is spent, and whoever needed it takes the line of this deed. Assumes nothing.
-use Rattle.std.proofs.Common.{◌≡◌, ℕ, suc, ◌+◌, ◌<◌, ◌≤◌, Bool, true, false, cond, eqb, ◌⊎◌, List, [], ◌∷◌, ◌++◌, map, sym, refl, ap, ◌∙◌, subst, inl, inr, arith, eqb-true}
-use Rattle.judge_rules.specs.Judge.{Noted, fits, spend}
+use Rattle.std.proofs.Common.{◌≡◌, ℕ, suc, ◌<◌, ◌≤◌, Bool, true, false, cond, eqb, ◌⊎◌, List, ◌∷◌, ◌++◌, sym, refl, ap, ◌∙◌, subst, inl, inr, arith, eqb-true}
+use Rattle.judge_rules.specs.Judge.{Noted, spend}
 use Rattle.judge.specs.Hearing.{claim}
-use Rattle.judge.proofs.Marks.{First, Fit, Mark, NoFit, Up, among, beside, fit-for, look, mark, middle, noted_of, of-fit, spent_mark, up-after, up-spent}
+use Rattle.judge.proofs.Marks.{First, Mark, NoFit, Up, among, beside, fit-for, look, mark, middle, of-fit, spent_mark, up-after, up-spent}
 use Rattle.judge.proofs.Standing.{InTime, Standing}
 use Rattle.rows.specs.Name.{Naming}
 use Rattle.rows.specs.Setting.{Setting, rules_of}

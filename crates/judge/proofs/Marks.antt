@@ -1,6 +1,6 @@
 -- The judge's lines beside the row's: which are spent, and the oldest that fits. Assumes nothing.
-use Rattle.std.proofs.Common.{◌≡◌, ℕ, suc, ◌+◌, ◌<◌, ◌≤◌, Bool, true, false, cond, not, ◌&&◌, eqb, leb, ◌⊎◌, List, [], ◌∷◌, ◌++◌, map, Some, None, Option, sym, refl, ap, ◌∙◌, subst, inl, inr, arith, eq-eqb, eqb-true, le-leb, leb-true}
-use Rattle.judge_rules.specs.Judge.{Act, Found, Noted, fits, oldest, spend, spent_line}
+use Rattle.std.proofs.Common.{◌≡◌, ℕ, suc, ◌+◌, ◌<◌, ◌≤◌, Bool, true, false, cond, not, ◌&&◌, eqb, leb, ◌⊎◌, List, [], ◌∷◌, ◌++◌, map, Some, None, sym, refl, ap, ◌∙◌, subst, inl, inr, arith, eq-eqb, eqb-true, le-leb, leb-true}
+use Rattle.judge_rules.specs.Judge.{Act, Noted, fits, oldest, spend, spent_line}
 use Rattle.parts.specs.Tick.{lately}
 use Rattle.rows.specs.Name.{Naming}
 use Rattle.rows.specs.Setting.{Setting}
@@ -9,7 +9,6 @@ use Rattle.rows.proofs.Names.{same-eq, same_refl}
 use Rattle.judge.specs.Hearing.{claim}
 use Rattle.tickets.proofs.Bools.{clash, either}
 use Rattle.std.specs.Str.{bytes_eq}
-use Rattle.std.proofs.lemmas.List.{map-append}
 use borrow.Author.Tests.{not-true}
 use mathlib.Core.List.Memᴰ
 use mathlib.Core.List.{Memᴰ}

@@ -1,18 +1,17 @@
 -- What a verdict means. Assumes nothing.
-use Rattle.std.proofs.Common.{◌≡◌, ℕ, zero, suc, ◌+◌, ◌<◌, ◌≤◌, Bool, true, false, cond, ◌||◌, ◌⊎◌, List, [], ◌∷◌, ◌++◌, map, reverse, length, Some, None, Option, sym, refl, ap, ◌∙◌, subst, inl, inr, arith}
-use Rattle.judge_rules.specs.Judge.{Act, Found, Noted, View, fits, is_key_in, is_taken, key_of, oldest, robbed, said, spend, unasked, verdict, with_key}
-use Rattle.judge_rules.specs.declared.record.Verdict.{Verdict}
-use Rattle.judge_rules.specs.declared.record.Verdict.TheVariants.{Asked, NotAsked, Stolen}
-use Rattle.judge.specs.Hearing.{Begins, FirstNamed, Hearing, Knows, Orderly, claim, deed, heard_lines, joins, line, nothing, sat, theft, thefts, verdicts}
-use Rattle.judge.specs.Meaning.{AskedBy, IsLine, Meaning, Means, Names, RobbedOf}
-use Rattle.judge.proofs.Marks.{First, Fit, Mark, NoFit, fit-for, fit_of, look, mark, none-fits, noted_of, of-fit, spent_mark}
+use Rattle.std.proofs.Common.{◌≡◌, ℕ, ◌+◌, ◌<◌, ◌≤◌, Bool, true, false, cond, ◌||◌, ◌⊎◌, List, [], ◌∷◌, ◌++◌, map, reverse, length, Some, None, Option, sym, refl, ap, ◌∙◌, subst, inl, inr, arith}
+use Rattle.judge_rules.specs.Judge.{Act, Found, Noted, View, fits, is_key_in, is_taken, oldest, robbed, said, spend, unasked, verdict, with_key}
+use Rattle.judge_rules.specs.declared.record.Verdict.TheVariants.{Asked, Stolen}
+use Rattle.judge.specs.Hearing.{Begins, Hearing, Knows, Orderly, claim, deed, heard_lines, joins, line, nothing, sat, theft, thefts, verdicts}
+use Rattle.judge.specs.Meaning.{AskedBy, IsLine, Meaning, Names, RobbedOf}
+use Rattle.judge.proofs.Marks.{First, Fit, Mark, NoFit, fit_of, look, mark, none-fits, noted_of, of-fit, spent_mark}
 use Rattle.judge.proofs.Order.{line_low}
 use Rattle.judge.proofs.Settled.{counts-robbed, house-there, lag-is, no_line, safe-if}
 use Rattle.judge.proofs.Spent.{Spent, found-by, names-found, spent-named}
 use Rattle.parts.specs.declared.word.Key.{Key}
 use Rattle.rows.specs.Name.{Naming, own_of}
-use Rattle.rows.specs.Setting.{Setting, rules_of}
-use Rattle.rows.specs.Row.{Deed, For, SafeDeed, Wanted}
+use Rattle.rows.specs.Setting.{Setting}
+use Rattle.rows.specs.Row.{Deed, For, Wanted}
 use Rattle.rows.proofs.Names.{same-eq}
 use Rattle.tickets.specs.State.{is_in}
 use Rattle.tickets.specs.Term.{Own}

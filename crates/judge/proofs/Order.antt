@@ -1,5 +1,5 @@
 -- Hearings in order: how their lines and deeds stand in time. Assumes nothing.
-use Rattle.std.proofs.Common.{◌≡◌, ℕ, suc, ◌+◌, ◌<◌, ◌≤◌, ◌⊎◌, List, [], ◌∷◌, ◌++◌, map, length, sym, refl, ap, ◌∙◌, subst, inl, inr, arith}
+use Rattle.std.proofs.Common.{◌≡◌, ℕ, ◌<◌, ◌≤◌, ◌⊎◌, List, [], ◌∷◌, ◌++◌, map, length, sym, ap, ◌∙◌, subst, inl, inr, arith}
 use Rattle.judge_rules.specs.Judge.{View}
 use Rattle.judge.specs.Hearing.{Hearing, Orderly, deed, heard_deeds, heard_lines, line, line_in, joins, nothing, theft, thefts}
 use Rattle.judge.proofs.Standing.{InTime}

@@ -1,9 +1,9 @@
 -- What is promised of one answer. Assumes nothing.
-use Rattle.std.proofs.Common.{◌≡◌, ℕ, List, [], ◌∷◌, ◌++◌, sym, refl, ap, ◌∙◌, subst}
+use Rattle.std.proofs.Common.{◌≡◌, ◌∷◌, ◌++◌, sym, ap, ◌∙◌, subst}
 use Rattle.judge_rules.specs.Judge.{Act as Claim, View, verdict}
 use Rattle.judge_rules.specs.declared.record.Verdict.{Verdict}
 use Rattle.judge_rules.specs.declared.record.Verdict.TheVariants.{NotAsked}
-use Rattle.judge.specs.Hearing.{Hearing, claim, deed, hearings, sat, verdict_in, verdicts}
+use Rattle.judge.specs.Hearing.{Hearing, claim, hearings, sat, verdict_in, verdicts}
 use Rattle.judge.specs.Meaning.{Means}
 use Rattle.judge.specs.Promise.{Meant, WasAsked}
 use Rattle.judge.proofs.Meant.{meaning}

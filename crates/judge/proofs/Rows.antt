@@ -1,21 +1,20 @@
 -- A row that can happen is heard in order, so no deed of it is one that was not asked. Assumes nothing.
-use Rattle.std.proofs.Common.{◌≡◌, ℕ, suc, ◌+◌, ◌^◌, ◌<◌, ◌≤◌, Bool, true, false, cond, eqb, ltb, leb, ◌⊎◌, List, [], ◌∷◌, ◌++◌, map, length, Some, None, Option, sym, refl, ap, ◌∙◌, subst, inl, inr, arith, ltb-false}
+use Rattle.std.proofs.Common.{◌≡◌, ℕ, ◌+◌, ◌^◌, ◌<◌, ◌≤◌, Bool, true, false, cond, eqb, ltb, leb, ◌⊎◌, List, [], ◌∷◌, ◌++◌, map, length, Some, None, Option, sym, refl, ap, ◌∙◌, subst, inl, inr, arith, ltb-false}
 use Rattle.judge_rules.specs.Judge.{View, key_of}
 use Rattle.judge_rules.specs.Total.{total_of}
 use Rattle.judge_rules.specs.declared.record.Principal.{Principal}
 use Rattle.judge_rules.specs.declared.record.Verdict.{Verdict}
 use Rattle.judge_rules.specs.declared.record.Verdict.TheVariants.{Asked, NotAsked, Stolen}
-use Rattle.judge.specs.Hearing.{Begins, FirstNamed, Hearing, InOrder, Introduced, KnowingAll, KnownTo, Knows, KnowsThree, NamedFirst, NeverUnasked, NoneUnasked, Orderly, sat, joins, deed, deed_in, hear, heard_by, heard_deeds, heard_lines, hearings, line, line_in, nothing, of_deed, of_line, theft, theft_in, thefts, verdicts}
+use Rattle.judge.specs.Hearing.{Hearing, InOrder, Introduced, KnowingAll, KnownTo, Knows, KnowsThree, NamedFirst, NeverUnasked, NoneUnasked, Orderly, sat, joins, deed, deed_in, hear, heard_by, heard_deeds, heard_lines, hearings, line, line_in, nothing, of_deed, of_line, theft, theft_in, thefts, verdicts}
 use Rattle.judge.proofs.Settled.{settled}
 use Rattle.parts.specs.Condition.{first_fault, unless}
-use Rattle.parts.specs.Tick.{clock}
 use Rattle.parts.specs.declared.fault.Fault.{Fault}
 use Rattle.parts.specs.declared.tick.Ticked.TheVariants.{Back, On, Stopped}
 use Rattle.parts.specs.declared.word.Asking.{Asking}
 use Rattle.parts.specs.declared.word.Key.{Key}
 use Rattle.parts.specs.declared.word.Ticket.{Ticket}
 use Rattle.service_rules.specs.Service as service
-use Rattle.service_rules.specs.Side.{begun, on_tick, set_tick, unfit}
+use Rattle.service_rules.specs.Side.{set_tick, unfit}
 use Rattle.service_rules.specs.declared.answer.Answer.{Answer}
 use Rattle.service_rules.specs.declared.answer.Answer.TheVariants.{Done as Did, Refused}
 use Rattle.service_rules.specs.declared.side.Side.{Side}
@@ -25,10 +24,8 @@ use Rattle.box_rules.specs.Line as boxline
 use Rattle.box_rules.specs.declared.answer.Answer as Told
 use Rattle.box_rules.specs.declared.answer.Answer.TheVariants as told
 use Rattle.held.specs.Crash.{reread, rejunk}
-use Rattle.held.specs.declared.memory.Cut.{Cut}
-use Rattle.rows.specs.Name.{Bytes, Naming, own_name, own_of, named}
-use Rattle.rows.specs.Word.{words_of}
-use Rattle.rows.specs.Setting.{Setting, rules_of}
+use Rattle.rows.specs.Name.{Bytes, Naming, own_name, own_of}
+use Rattle.rows.specs.Setting.{Setting}
 use Rattle.rows.specs.System.{Act, Possible, System, crashed_home, crashed_view, restarted, run, step, view_of}
 use Rattle.rows.specs.System as system
 use Rattle.rows.specs.Row.{Accounted, Deed, Wanted, deed_by, deed_told, deeds, line_by, line_told, lines}

@@ -1,20 +1,19 @@
 -- Of hearings in order whose deeds are accounted for, the judge never says that a deed was not asked. Assumes nothing.
-use Rattle.std.proofs.Common.{◌≡◌, ℕ, suc, ◌+◌, ◌<◌, ◌≤◌, Bool, true, false, cond, ◌||◌, eqb, ◌⊎◌, List, [], ◌∷◌, ◌++◌, map, length, Some, None, Option, sym, refl, ap, ◌∙◌, subst, inl, inr, append_assoc, arith, eqb-true}
-use Rattle.judge_rules.specs.Judge.{Found, Noted, View, is_key_in, is_taken, judged, key_of, noted, oldest, robbed, said, stole, unasked, verdict, with_key}
-use Rattle.judge_rules.specs.declared.record.Verdict.{Verdict}
-use Rattle.judge_rules.specs.declared.record.Verdict.TheVariants.{Asked, NotAsked, Stolen}
-use Rattle.judge.specs.Hearing.{Begins, FirstNamed, Hearing, Knows, Orderly, Settled, claim, deed, hear, heard_deeds, heard_lines, joins, line, line_in, nothing, sat, theft, thefts, verdicts}
-use Rattle.judge.proofs.Standing.{InTime, Standing, begins, finds, notes, passes}
+use Rattle.std.proofs.Common.{◌≡◌, ℕ, ◌<◌, Bool, true, false, ◌||◌, eqb, ◌⊎◌, List, [], ◌∷◌, ◌++◌, map, length, Some, None, Option, sym, refl, ap, ◌∙◌, subst, inl, inr, append_assoc, arith, eqb-true}
+use Rattle.judge_rules.specs.Judge.{Found, Noted, View, is_key_in, is_taken, judged, oldest, robbed, said, unasked, verdict, with_key}
+use Rattle.judge_rules.specs.declared.record.Verdict.TheVariants.{NotAsked}
+use Rattle.judge.specs.Hearing.{Begins, FirstNamed, Hearing, Knows, Orderly, Settled, claim, deed, heard_deeds, heard_lines, joins, line, line_in, nothing, sat, theft, thefts, verdicts}
+use Rattle.judge.proofs.Standing.{Standing, begins, finds, notes, passes}
 use Rattle.judge.proofs.Exchange.{judges}
 use Rattle.judge.proofs.Order.{earlier, in-time, later-deed, later-line, line_at}
 use Rattle.parts.specs.declared.word.Key.{Key}
 use Rattle.rows.specs.Name.{Naming, own_of}
 use Rattle.rows.specs.Setting.{Setting, rules_of}
 use Rattle.rows.specs.Row.{Accounted, Deed, SafeDeed, Wanted}
-use Rattle.rows.proofs.Names.{same-eq, same_refl}
-use Rattle.tickets.specs.State.{Safe, any_in, is_in, relies}
+use Rattle.rows.proofs.Names.{same_refl}
+use Rattle.tickets.specs.State.{any_in, is_in, relies}
 use Rattle.tickets.specs.Term.{Own}
-use Rattle.tickets.proofs.Bools.{Unsafe, clash, either, or_cases, or-false-left, or-false-right, or_left, or_right}
+use Rattle.tickets.proofs.Bools.{Unsafe, clash, either, or_cases, or_left, or_right}
 use Rattle.std.specs.Str.{bytes_eq}
 use mathlib.Core.List.Memᴰ
 use mathlib.Core.List.{Memᴰ}

@@ -1,12 +1,10 @@
 -- What is spent stays spent, and by whom. Assumes nothing.
-use Rattle.std.proofs.Common.{◌≡◌, ℕ, zero, suc, ◌+◌, ◌<◌, ◌≤◌, Bool, true, false, cond, not, ◌⊎◌, List, [], ◌∷◌, ◌++◌, Some, None, Option, sym, refl, ap, ◌∙◌, subst, inl, inr, arith}
-use Rattle.judge_rules.specs.Judge.{Act, Found, Noted, View, fits, judged, line_of, oldest, robbed, said, spend, spent_line, unasked, verdict}
-use Rattle.judge_rules.specs.declared.record.Verdict.{Verdict}
-use Rattle.judge_rules.specs.declared.record.Verdict.TheVariants.{Asked, NotAsked, Stolen}
-use Rattle.judge.specs.Hearing.{Hearing, claim, deed, hear, joins, line, nothing, sat, theft, verdicts}
-use Rattle.judge.specs.Meaning.{LinesOnce, NamedOnce, Names}
+use Rattle.std.proofs.Common.{◌≡◌, ℕ, zero, suc, ◌+◌, ◌≤◌, Bool, true, false, cond, not, ◌⊎◌, List, [], ◌∷◌, ◌++◌, Some, None, Option, sym, refl, ap, ◌∙◌, subst, inl, inr, arith}
+use Rattle.judge_rules.specs.Judge.{Act, Found, Noted, View, fits, oldest, robbed, said, spend, spent_line, unasked, verdict}
+use Rattle.judge_rules.specs.declared.record.Verdict.TheVariants.{Asked}
+use Rattle.judge.specs.Hearing.{Hearing, claim, deed, joins, line, nothing, sat, theft, verdicts}
+use Rattle.judge.specs.Meaning.{LinesOnce, Names}
 use Rattle.judge.proofs.Marks.{and_both}
-use Rattle.rows.specs.Row.{Deed, Wanted}
 use Rattle.tickets.proofs.Bools.{clash}
 use borrow.Author.Tests.{not-true}
 use mathlib.Core.List.Memᴰ

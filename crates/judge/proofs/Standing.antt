@@ -1,13 +1,12 @@
 -- The deeds still to come can be accounted for by lines that are not spent, whatever the judge has spent so far. Assumes nothing.
-use Rattle.std.proofs.Common.{◌≡◌, ℕ, suc, ◌+◌, ◌<◌, ◌≤◌, Bool, true, false, cond, eqb, ◌⊎◌, List, [], ◌∷◌, ◌++◌, map, None, sym, refl, ap, ◌∙◌, subst, inl, inr, arith, eqb-true}
-use Rattle.judge_rules.specs.Judge.{Noted, fits, line_of, oldest, spend}
+use Rattle.std.proofs.Common.{◌≡◌, ℕ, suc, ◌<◌, ◌≤◌, Bool, true, false, eqb, ◌⊎◌, List, [], ◌∷◌, ◌++◌, map, None, sym, refl, ap, ◌∙◌, subst, inl, inr, arith, eqb-true}
+use Rattle.judge_rules.specs.Judge.{Noted, line_of, oldest}
 use Rattle.judge.specs.Hearing.{claim}
-use Rattle.judge.proofs.Marks.{First, Fit, Mark, NoFit, Up, among, beside, fit-for, fit_of, look, mark, middle, none-fits, noted_of, of-fit, spent_mark, up-after, up-low, up_more, up-spent}
+use Rattle.judge.proofs.Marks.{Mark, Up, fit-for, mark, none-fits, noted_of, of-fit, up_more}
 use Rattle.rows.specs.Name.{Naming}
-use Rattle.rows.specs.Setting.{Setting, rules_of}
+use Rattle.rows.specs.Setting.{Setting}
 use Rattle.rows.specs.Row.{Accounted, Deed, For, SafeDeed, Wanted}
-use Rattle.tickets.specs.State.{Safe, any_in, relies}
-use Rattle.tickets.proofs.Bools.{Sub, Unsafe, clash, either, safe-back}
+use Rattle.tickets.proofs.Bools.{Sub, clash, either}
 use Rattle.std.proofs.lemmas.List.{map-append}
 use borrow.Author.Tests.{eqb-false}
 use mathlib.Core.List.Memᴰ

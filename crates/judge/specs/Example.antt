@@ -4,13 +4,11 @@
 -- Worked     cases by hand: what the judge says of a deed for reader 1 of service 2, with lag 5
 use Rattle.std.specs.Prelude.{◌≡◌, ℕ, true, false, List, [], ◌∷◌, replicate}
 use Rattle.judge_rules.specs.Judge.{View, fresh}
-use Rattle.judge_rules.specs.declared.record.Principal.{Principal}
 use Rattle.judge_rules.specs.declared.record.Verdict.{Verdict}
 use Rattle.judge_rules.specs.declared.record.Verdict.TheVariants.{Asked, NotAsked, Stolen}
 use Rattle.parts.specs.declared.word.Key.{Key}
 use Rattle.rows.specs.Happens.{happens, setting}
 use Rattle.rows.specs.Name.{Naming, own_of}
-use Rattle.rows.specs.Row.{Deed, Wanted}
 use Rattle.rows.specs.System.{Possible}
 use Rattle.judge.specs.Hearing.{Begins, FirstNamed, Hearing, Introduced, deed, hearings, joins, line, theft, verdicts}
 

@@ -11,7 +11,7 @@
 -- Introduced c n v t es   he knows the own keys of those that an act of the row concerns, when it comes
 -- FirstNamed c n       the name of an own key is a number that has it
 -- Orderly c n v xs     hearings as time brings them to the judge v
-use Rattle.std.specs.Prelude.{◌≡◌, ℕ, suc, ◌+◌, ◌<◌, ◌≤◌, List, [], ◌∷◌, ◌++◌, map, length, Some}
+use Rattle.std.specs.Prelude.{◌≡◌, ℕ, ◌<◌, ◌≤◌, List, [], ◌∷◌, ◌++◌, map, length, Some}
 use mathlib.Core.List.{Memᴰ}
 use Rattle.judge_rules.specs.Judge.{Act as Claim, View, line_of, joined, judged, key_of, noted, stole, verdict}
 use Rattle.judge_rules.specs.Total.{total_of}

@@ -1,7 +1,7 @@
 -- What is promised of one answer of the judge, wherever he came to it. Assumes nothing.
 --
 -- w: the judge as he is asked; a: the deed as he is told it; r: what he answers
-use Rattle.std.specs.Prelude.{◌≡◌, ℕ, List, [], ◌∷◌, length, ◌≢◌}
+use Rattle.std.specs.Prelude.{◌≡◌, ℕ, List, ◌∷◌, length, ◌≢◌}
 use Rattle.judge_rules.specs.Judge.{Act as Claim, View}
 use Rattle.judge_rules.specs.declared.record.Verdict.{Verdict}
 use Rattle.judge_rules.specs.declared.record.Verdict.TheVariants.{NotAsked}

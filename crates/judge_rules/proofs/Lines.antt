@@ -1,7 +1,7 @@
 -- The oldest line that fits, and what is spent by it. Assumes nothing.
-use Rattle.std.proofs.Common.{◌≡◌, ℕ, zero, suc, ◌+◌, ◌<◌, Bool, true, false, cond, ◌||◌, eqb, List, [], ◌∷◌, map, length, get_or, drop, set, Some, None, Option, sym, refl, ap, ◌∙◌, subst, arith}
+use Rattle.std.proofs.Common.{◌≡◌, ℕ, suc, ◌+◌, ◌<◌, Bool, true, false, cond, ◌||◌, eqb, List, [], ◌∷◌, map, length, get_or, drop, set, Some, None, sym, refl, ap, ◌∙◌, subst, arith}
 use Rattle.judge_rules.specs.Find.{found_at}
-use Rattle.judge_rules.specs.Judge.{Act, Found, Noted, fits, is_key_in, key_of, oldest, plain, spend, spent_line}
+use Rattle.judge_rules.specs.Judge.{Act, Noted, fits, is_key_in, key_of, oldest, plain, spend, spent_line}
 use Rattle.judge_rules.specs.declared.record.Line.{Line}
 use Rattle.judge_rules.specs.declared.record.Principal.{Principal}
 use Rattle.parts.specs.declared.word.Key.{Key}

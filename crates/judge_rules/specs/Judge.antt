@@ -10,7 +10,7 @@
 -- verdict v a        what the judge says of a deed
 -- judged v a         what he is afterwards
 -- noted, stole, joined  the judge when a line, a theft, a principal was noted
-use Rattle.std.specs.Prelude.{ℕ, suc, ◌+◌, Bool, true, false, cond, not, ◌&&◌, ◌||◌, List, [], ◌∷◌, ◌++◌, map, take, Some, None, vec_items, Option, ◌==◌}
+use Rattle.std.specs.Prelude.{ℕ, ◌+◌, Bool, true, false, cond, not, ◌&&◌, ◌||◌, List, [], ◌∷◌, ◌++◌, map, take, Some, None, vec_items, Option, ◌==◌}
 use Rattle.judge_rules.specs.declared.record.Done.{Done}
 use Rattle.judge_rules.specs.declared.record.Judge.{Judge}
 use Rattle.judge_rules.specs.declared.record.Line.{Line}

@@ -6,7 +6,7 @@ use Rattle.std.proofs.Common.{rules}
 
 pub returns-then-same : goal.returns-then-same
 returns-then-same c =
-    let e = is_key_in-more c.args.key.now c.args.keys.now c.loop-one.one_Index c.loop-one-test.true in
+    let e = is_key_in-more c.args.key.now c.args.keys.now c.loop-one.one-index c.loop-one-test.true in
     let i = c.loop-one.invariant in
     let h = c.same.ensures in
     let k = c.if-same.true in
@@ -14,7 +14,7 @@ returns-then-same c =
 
 pub loop-one-preserved : goal.loop-one-preserved
 loop-one-preserved c =
-    let e = is_key_in-more c.args.key.now c.args.keys.now c.loop-one.one_Index c.loop-one-test.true in
+    let e = is_key_in-more c.args.key.now c.args.keys.now c.loop-one.one-index c.loop-one-test.true in
     let i = c.loop-one.invariant in
     let h = c.same.ensures in
     let k = c.if-same.false in
@@ -22,6 +22,6 @@ loop-one-preserved c =
 
 pub returns : goal.returns
 returns c =
-    let e = at_drop_all (is_key_in c.args.key.now) c.args.keys.now c.loop-one.one_Index in
+    let e = at_drop_all (is_key_in c.args.key.now) c.args.keys.now c.loop-one.one-index in
     let i = c.loop-one.invariant in
     search rules

@@ -3,7 +3,7 @@ use Rattle.judge_rules.proofs.record.Judge.judge.Goals as goal
 use Rattle.judge_rules.specs.Find.{found_at}
 use Rattle.judge_rules.specs.Judge.{Noted, act_of, oldest, plain, said, unasked, robbed, seen, with-lines}
 use Rattle.judge_rules.specs.declared.record.Line.{Line}
-use Rattle.std.proofs.Common.{◌≡◌, ◌<◌, List, map, length, Some, None, vec_items, vec_len, sym, refl, ap, ◌∙◌, subst, arith, rules}
+use Rattle.std.proofs.Common.{◌≡◌, List, map, Some, None, vec_items, sym, ap, ◌∙◌, subst, arith, rules}
 
 pub returns-in_default : goal.returns-in_default
 returns-in_default c =
@@ -25,8 +25,8 @@ index_mut-requires c =
     let w = within c.args.self.now.lag (act_of c.args.done.now) c.as_slice.result.now c.in-Some.i (sym c.in-Some.is ∙ c.find.ensures) in
     omega (arith, c.as_slice.ensures.len)
 
-pub overflow-add-result : goal.overflow-add-result
-overflow-add-result c =
+pub overflow_add-result : goal.overflow_add-result
+overflow_add-result c =
     let w = within c.args.self.now.lag (act_of c.args.done.now) c.as_slice.result.now c.in-Some.i (sym c.in-Some.is ∙ c.find.ensures) in
     let v = c.args.self.now.lines.small in
     let e = c.as_slice.ensures.len in
