@@ -5,6 +5,7 @@ use anyhow::anyhow;
 use script::lines::first_line;
 use script::town::{Answer, Town};
 use std::io::{Read, Write};
+use std::process::ExitCode;
 use std::{env, fs};
 
 // The script, whole.
@@ -48,10 +49,12 @@ fn run(rt: &HostRuntime) -> anyhow::Result<()> {
     play(rt, text.as_slice())
 }
 
-fn main(rt: HostRuntime) -> anyhow::Result<()> {
-    let done = run(&rt);
-    if let Err(e) = &done {
-        eprintln!(rt; "town: {e}")?;
+fn main(rt: HostRuntime) -> ExitCode {
+    match run(&rt) {
+        Ok(()) => ExitCode::SUCCESS,
+        Err(e) => {
+            let _told = eprintln!(rt; "town: {e}");
+            ExitCode::FAILURE
+        }
     }
-    done
 }
