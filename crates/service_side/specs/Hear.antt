@@ -1,8 +1,8 @@
 -- What is promised of a word that a service heard. Assumes nothing.
 --
 -- ReadAs x r          what the code read, r, is what the word is, x; or there was no memory
--- event_of a           what stands in the book of an answer: the deed or the fault, and no key
--- word_of s            the bytes of what is sent
+-- event_of a          what stands in the book of an answer: the deed or the fault, and no key
+-- word_of s           the bytes of what is sent
 -- Tells l a h         h notes and sends the answer a
 -- Hears l v k w r v'  a service v with the own key k heard w: what it noted and sent, and what it is then
 use Rattle.locked.specs.Locked.{Bytes, Locks}

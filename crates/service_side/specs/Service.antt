@@ -1,11 +1,11 @@
 -- What a service makes of a word of bytes: it is framed, its locks are opened, it is decided, and the answer is locked. Assumes nothing.
 --
--- Read                 what a word is to a service: a ticket and an asking that were read, or what is wrong
+-- Read                   what a word is to a service: a ticket and an asking that were read, or what is wrong
 -- read_at_service l k w  the word w, at a service with the own key k
--- answer_to l v r       what the service answers to it, by its decision; after_word: what it is then
--- sent_by l a           the bytes that go out with an answer
--- Hears l v k w a v'   what is promised of a word heard
-use Rattle.std.specs.Prelude.{ℕ, Some, Ok, Err, Option, Result}
+-- answer_to l v r        what the service answers to it, by its decision; after_word: what it is then
+-- sent_by l a            the bytes that go out with an answer
+-- Hears l v k w a v'     what is promised of a word heard
+use Rattle.std.specs.Prelude.{Some, Ok, Err, Option, Result}
 use Rattle.locked.specs.Locked.{Bytes, Locks, asking_in, digest_of, receipt_lock, refusal_word, ticket_in}
 use Rattle.parts.specs.declared.fault.Fault.{Fault}
 use Rattle.parts.specs.declared.fault.Fault.TheVariants.{Malformed}

@@ -53,13 +53,13 @@ impl<M: Memory, D: Drawn> Service<M, D> {
     // Decides on a ticket and an asking that were read.
     fn decide(&mut self, ticket: Ticket, asking: Asking) -> Answer
         ensures answer { result ≡ answer_to ours
-            (view self.old.side (kept self.old.memory) (junk self.old.memory) (writes self.new.memory) (left self.old.drawn))
+            (view self.old.side (M.kept self.old.memory) (M.junk self.old.memory) (M.writes self.new.memory) (D.left self.old.drawn))
             (asks ticket asking) }
-        ensures after { (view self.new.side (kept self.new.memory) (junk self.new.memory) (writes self.new.memory) (left self.new.drawn))
+        ensures after { (view self.new.side (M.kept self.new.memory) (M.junk self.new.memory) (M.writes self.new.memory) (D.left self.new.drawn))
             ≡ after_word ours
-            (view self.old.side (kept self.old.memory) (junk self.old.memory) (writes self.new.memory) (left self.old.drawn))
+            (view self.old.side (M.kept self.old.memory) (M.junk self.old.memory) (M.writes self.new.memory) (D.left self.old.drawn))
             (asks ticket asking) }
-        ensures keeps { keeps self.old.memory self.new.memory }
+        ensures keeps { M.keeps self.old.memory self.new.memory }
         ensures key { self.new.key ≡ self.old.key }
     {
         let digest = digest(&ticket.key.0, &asking.number.0);
@@ -82,10 +82,10 @@ impl<M: Memory, D: Drawn> Service<M, D> {
     // all is as it was.
     pub fn hear(&mut self, heap: Global, word: &[u8]) -> Result<Heard, AllocError>
         ensures hears { Hears ours
-            (view self.old.side (kept self.old.memory) (junk self.old.memory) (writes self.new.memory) (left self.old.drawn))
+            (view self.old.side (M.kept self.old.memory) (M.junk self.old.memory) (M.writes self.new.memory) (D.left self.old.drawn))
             self.old.key word.now result
-            (view self.new.side (kept self.new.memory) (junk self.new.memory) (writes self.new.memory) (left self.new.drawn)) }
-        ensures keeps { keeps self.old.memory self.new.memory }
+            (view self.new.side (M.kept self.new.memory) (M.junk self.new.memory) (M.writes self.new.memory) (D.left self.new.drawn)) }
+        ensures keeps { M.keeps self.old.memory self.new.memory }
         ensures key { self.new.key ≡ self.old.key }
         ensures same { is_err result ≡ true → self.new ≡ self.old }
     {
