@@ -1,29 +1,24 @@
 -- An argument is read from the text that writes it, and from no other. Assumes nothing.
 --   Is P T s x       s is the text of x, if x is P
 --   Begins P T s p   s begins so, and goes on after a space
-use Rattle.std.proofs.Common.{◌≡◌, ℕ, ◌+◌, ◌-◌, ◌^◌, ◌<◌, ◌≤◌, Bool, true, false, cond, eqb, ltb, List, [], ◌∷◌, ◌++◌, length, get_or, drop, Some, None, codes, decimal, Option, sym, refl, ap, ◌∙◌, arith, drop-cons}
+use Rattle.std.proofs.Common.{◌≡◌, ℕ, true, false, cond, eqb, ltb, List, [], ◌∷◌, ◌++◌, length, Some, None, codes, decimal, Option, sym, refl, ap, ◌∙◌, arith}
 use Rattle.std.specs.Str.{bytes_eq}
 use Rattle.std.proofs.lemmas.Slice.Eq.{bytes_eq-Decides}
-use Rattle.std.proofs.lemmas.Bool.{eqb-true, eqb-false, ltb-false, cond_both}
+use Rattle.std.proofs.lemmas.Bool.{eqb-true, ltb-false, cond_both}
 use Rattle.seal.specs.declared.kind.Kind.{Kind}
 use Rattle.seal.specs.declared.kind.Kind.TheVariants as kind
-use Rattle.words.specs.declared.Key.{Key}
 use Rattle.words.specs.Laws.{bytes_text}
-use Rattle.words.specs.Text.{and_then, word_then, cut_at, decimal_of, principal_of, decimal_then, principal_then, hex_of, key_of}
+use Rattle.words.specs.Text.{word_then, cut_at, decimal_of, principal_of, decimal_then, principal_then, hex_of, key_of}
 use Rattle.words.proofs.Bytes.{bytes-exact}
 use Rattle.words.proofs.Cuts.{cut-joins}
 use Rattle.words.proofs.Exact.{exact-decimal}
 use Rattle.words.proofs.Pairs.{keys-exact}
-use Rattle.commands.specs.declared.line.Left.{Left}
 use Rattle.commands.specs.declared.line.Left.TheVariants as left
-use Rattle.commands.specs.declared.line.Piece.{Piece}
-use Rattle.commands.specs.declared.line.Place.{Place}
 use Rattle.commands.specs.declared.line.Place.TheVariants as place
-use Rattle.commands.specs.declared.line.Side.{Side}
 use Rattle.commands.specs.declared.line.Side.TheVariants as side
-use Rattle.commands.specs.Arguments.{ticket_of, ticket_then, initial_of, lettered, side_of, side_then, place_of, piece_of, piece_then, kind_numbered, kind_of, kind_then, key_then, short_of, short_then, left_of, writes_of}
+use Rattle.commands.specs.Arguments.{ticket_of, ticket_then, initial_of, lettered, side_of, side_then, place_of, piece_of, piece_then, kind_of, kind_then, key_then, short_of, short_then, left_of, writes_of}
 use Rattle.commands.specs.Laws.{spaced, key_text, kind_text, ticket_text, side_text, place_text, piece_text, left_text, writes_text, Small, SmallTicket, SmallPiece}
-use Rattle.commands.proofs.Ifs.{If, if-any, if-then, if-each}
+use Rattle.commands.proofs.Ifs.{If, if-then, if-each}
 
 abbrev pub Is : {A : Type 0} → (A → Type 0) → (A → List ℕ) → List ℕ → A → Type 0
 Is P T s x = P x → s ≡ T x

@@ -1,5 +1,5 @@
 -- What holds of a value, if there is one. Assumes nothing.
-use Rattle.std.proofs.Common.{◌≡◌, Some, None, Option, sym, refl, subst}
+use Rattle.std.proofs.Common.{◌≡◌, Some, None, Option, refl, subst}
 use Rattle.words.specs.Text.{and_then}
 
 abbrev pub If : {A : Type 0} → (A → Type 0) → Option A → Type 0

@@ -1,5 +1,5 @@
 -- A line is read from the text that writes it, and from no other. Assumes nothing.
-use Rattle.std.proofs.Common.{◌≡◌, ℕ, ◌-◌, ◌^◌, ◌<◌, Bool, cond, eqb, ltb, List, [], ◌∷◌, ◌++◌, length, Some, None, codes, decimal, Option, sym, refl, ap, ◌∙◌, arith}
+use Rattle.std.proofs.Common.{◌≡◌, ℕ, Bool, cond, eqb, ltb, List, ◌∷◌, ◌++◌, length, Some, None, codes, decimal, Option, refl, ap, ◌∙◌, arith}
 use Rattle.std.proofs.lemmas.Bool.{eqb-true, cond_both}
 use Rattle.words.specs.Laws.{bytes_text}
 use Rattle.words.specs.Text.{and_then, cut_at, decimal_of, hex_of, key_of, decimal_then, principal_then}
@@ -11,7 +11,7 @@ use Rattle.commands.specs.declared.line.Side.{Side}
 use Rattle.commands.specs.declared.verbs.Verb.{Verb}
 use Rattle.commands.specs.declared.verbs.Verb.TheVariants as verb
 use Rattle.commands.specs.Arguments.{ticket_then, side_of, side_then, piece_of, piece_then, kind_then, key_then, short_then, left_of, writes_of}
-use Rattle.commands.specs.Grammar.{settings_of, account_of, wish_of, repeat_of, login_of, letter_of, asking_of, join_numbered, join_of, making_of, opening_of, cut_of, device_of, says_of, saying_of, silent, read_of}
+use Rattle.commands.specs.Grammar.{settings_of, account_of, wish_of, repeat_of, login_of, letter_of, asking_of, join_of, making_of, opening_of, cut_of, device_of, says_of, saying_of, silent, read_of}
 use Rattle.commands.specs.Laws.{spaced, key_text, kind_text, ticket_text, side_text, piece_text, left_text, writes_text, settings_text, account_text, wish_text, join_text, making_text, opening_text, line_text, Small, SmallTicket, SmallPiece, SmallJoin, Plain, LinesAreExact}
 use Rattle.commands.specs.Said as say
 use Rattle.commands.specs.Verbs.{town_verb_of, reader_verb_of, net_verb_of, key_verb_of, side_verb_of, or_else, verb_of}

@@ -1,4 +1,4 @@
-use Rattle.std.proofs.Common.{◌≡◌, ℕ, eqb, List, length, get_or, Some, sym, ap, ◌∙◌}
+use Rattle.std.proofs.Common.{ℕ, eqb, List, length, get_or, Some, sym, ap, ◌∙◌}
 use Rattle.std.proofs.lemmas.List.{take_rest}
 use Rattle.std.proofs.lemmas.Bool.{cond-false}
 use Rattle.commands.proofs.arguments.initial.Goals as goal
