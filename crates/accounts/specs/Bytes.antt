@@ -1,5 +1,5 @@
 -- Accounts in bytes. Assumes nothing.
-use Rattle.std.specs.Prelude.{◌≡◌, ℕ, zero, suc, ◌+◌, ◌-◌, ◌*◌, ◌<◌, ◌≤◌, Bool, true, false, cond, ◌&&◌, leb, ◌⊎◌, List, [], ◌++◌, length, get_or, take, drop, Some, None, Option, ◌≢◌, nat_le, slice_index, slice_index_or, refl}
+use Rattle.std.specs.Prelude.{◌≡◌, ℕ, zero, suc, ◌+◌, ◌-◌, ◌*◌, ◌<◌, ◌≤◌, Bool, true, false, cond, leb, ◌⊎◌, List, [], ◌++◌, length, get_or, take, drop, Some, None, ◌≢◌, nat_le, slice_index, slice_index_or, refl}
 use Rattle.accounts.specs.Entry.{entry}
 use Rattle.accounts.specs.Payload.{low, measure, payload, readable}
 use Rattle.halves.specs.Half.{Steady, payload_in}

@@ -4,7 +4,7 @@
 --   accounts_in bs      the 1,024 accounts in these bytes
 --   low bs n           the states of the numbers from 1 to n are at most 2
 --   measure bs         as many bytes as the payload at the front of these has, if one stands there
-use Rattle.std.specs.Prelude.{ℕ, zero, suc, ◌+◌, ◌*◌, Bool, true, cond, ◌&&◌, List, map, length, take, drop, Some, None, Option, ◌==◌, nat_le, slice_index}
+use Rattle.std.specs.Prelude.{ℕ, zero, suc, ◌+◌, ◌*◌, Bool, true, cond, ◌&&◌, List, map, length, take, drop, Some, None, ◌==◌, nat_le, slice_index}
 use Rattle.accounts.specs.Entry.{account_in, entry}
 use Rattle.halves.specs.Half.{Measure}
 use Rattle.parts.specs.declared.account.Account.{Account}

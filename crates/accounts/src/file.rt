@@ -34,7 +34,7 @@ fn encode(bytes: &mut [u8], accounts: &[Account; 1024])
 
 // Has the file its size?
 fn is_whole<D: Device>(device: &D) -> bool
-    ensures { result ≡ whole (blocks device.now) }
+    ensures { result ≡ whole (D.blocks device.now) }
 {
     device.read(Which::First).len() == HALF && device.read(Which::Second).len() == HALF
 }
@@ -52,7 +52,7 @@ fn all_in(payload: &[u8]) -> Option<[Account; 1024]>
 
 // The accounts in the newest good half, if the file has its size.
 fn accounts_of<D: Device>(halves: &Halves, device: &D) -> Option<[Account; 1024]>
-    ensures { result ≡ accounts_on halves.now (blocks device.now) }
+    ensures { result ≡ accounts_on halves.now (D.blocks device.now) }
 {
     if is_whole(device) {
         all_in(halves.payload(device))
@@ -64,7 +64,7 @@ fn accounts_of<D: Device>(halves: &Halves, device: &D) -> Option<[Account; 1024]
 impl<D: Device> AccountFile<D> {
     // Every start: a new file is made, any other is read. If no half is good or the file has another size, the house does not start, and has its device back.
     pub fn start(device: D) -> Result<AccountFile<D>, D>
-        ensures { MatchResult result (λ f. Begins (blocks device) (Some (state f.accounts f.halves (blocks f.device))) (blocks f.device)) (λ d. Begins (blocks device) None (blocks d)) }
+        ensures { MatchResult result (λ f. Begins (D.blocks device) (Some (state f.accounts f.halves (D.blocks f.device))) (D.blocks f.device)) (λ d. Begins (D.blocks device) None (D.blocks d)) }
     {
         let mut device = device;
         let mut bytes = [0u8; 33816];
@@ -84,7 +84,7 @@ impl<D: Device> AccountFile<D> {
     fn change(&mut self, number: u16, account: Account) -> bool
         requires { number < 1024 }
         ensures sized { Sized account }
-        ensures changes { Changes (state self.old.accounts self.old.halves (blocks self.old.device)) number account result (state self.new.accounts self.new.halves (blocks self.new.device)) }
+        ensures changes { Changes (state self.old.accounts self.old.halves (D.blocks self.old.device)) number account result (state self.new.accounts self.new.halves (D.blocks self.new.device)) }
     {
         if !may_become(&self.accounts, number, account) {
             return false;

@@ -1,4 +1,4 @@
-use Rattle.std.proofs.Common.{◌≡◌, ℕ, ◌+◌, List, [], ◌∷◌, ◌++◌, take, set, ap, ◌∙◌, arith}
+use Rattle.std.proofs.Common.{◌≡◌, ℕ, List, [], ◌∷◌, ◌++◌, take, set, ap, ◌∙◌, arith}
 use Rattle.accounts.proofs.entry.put_account.Goals as goal
 use Rattle.accounts.specs.Entry.{state_of}
 use Rattle.halves.proofs.Parts.{put-end}

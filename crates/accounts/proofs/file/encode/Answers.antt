@@ -1,7 +1,7 @@
 use Rattle.accounts.specs.Bytes.{payload-mid}
 use Rattle.accounts.proofs.file.encode.Goals as goal
 use Rattle.std.proofs.lemmas.List.{length-drop, length-take-le}
-use Rattle.std.proofs.Common.{◌≡◌, ◌-◌, length, take, drop, ◌∙◌, arith}
+use Rattle.std.proofs.Common.{◌≡◌, length, drop, ◌∙◌, arith}
 
 pub returns : goal.returns
 returns c =

@@ -1,4 +1,4 @@
-use Rattle.std.proofs.Common.{◌≡◌, ℕ, ◌+◌, ◌<◌, length, get_or, set, sym, ap, ◌∙◌, subst, arith}
+use Rattle.std.proofs.Common.{◌≡◌, ℕ, ◌+◌, ◌<◌, get_or, set, sym, ◌∙◌, subst, arith}
 use Rattle.accounts.proofs.payload.accounts_in.Goals as goal
 use Rattle.accounts.specs.Payload.{account_at, accounts_in}
 use Rattle.parts.specs.declared.account.Account.{Account}

@@ -2,7 +2,7 @@ use Rattle.accounts.specs.Bytes.{low-false, low-more, low-none}
 use Rattle.accounts.proofs.payload.are_low.Goals as goal
 use Rattle.std.proofs.lemmas.Bool.{le-leb, lt-leb}
 use Rattle.accounts.specs.Payload.{low}
-use Rattle.std.proofs.Common.{◌≡◌, ℕ, sym, ap, ◌∙◌, arith}
+use Rattle.std.proofs.Common.{◌≡◌, sym, ap, ◌∙◌, arith}
 
 pub loop-i-init : goal.loop-i-init
 loop-i-init c = low-none c.args.bytes.now

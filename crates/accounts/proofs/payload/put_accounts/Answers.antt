@@ -1,9 +1,7 @@
-use Rattle.std.proofs.Common.{◌≡◌, ℕ, ◌+◌, ◌-◌, ◌*◌, ◌≤◌, List, ◌++◌, length, get_or, take, drop, sym, ap, ◌∙◌, arith}
+use Rattle.std.proofs.Common.{◌≡◌, ℕ, ◌+◌, ◌-◌, ◌*◌, ◌≤◌, List, ◌++◌, length, take, drop, sym, ap, ◌∙◌, arith}
 use Rattle.accounts.specs.Bytes.{payload-more, payload-none}
 use Rattle.accounts.proofs.payload.put_accounts.Goals as goal
-use Rattle.accounts.specs.Entry.{entry}
 use Rattle.accounts.specs.Payload.{payload}
-use Rattle.parts.specs.declared.account.Account.{Account}
 use Rattle.std.proofs.lemmas.List.{length-drop, length-take-le, take_all}
 use Rattle.std.proofs.lemmas.Slice.{take-put_mid}
 

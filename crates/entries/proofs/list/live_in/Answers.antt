@@ -1,6 +1,6 @@
 use Rattle.entries.proofs.Side.{entry, get_d_beside, length-beside}
 use Rattle.entries.proofs.list.live_in.Goals as goal
-use Rattle.entries.proofs.list.live_in.Goals.{else-is-live, then-is-live}
+use Rattle.entries.proofs.list.live_in.Goals.{else-is_live, then-is_live}
 use Rattle.entries.specs.Beside.{beside}
 use Rattle.held.proofs.Entries.{length-live-no, length-live-yes}
 use Rattle.parts.specs.Tick.{live}
@@ -20,8 +20,8 @@ loop-i-preserved c =
     let i = c.loop-i.invariant in
     let h = ap (live c.args.tick c.args.lag) x ∙ sym c.is_live.ensures in
     elim c.if-is_live.branch [
-      | then-is-live w ↦ (omega (arith, i, w.live-is, yes' (h ∙ w.if-is_live.true)), omega (arith, i, w.live-is))
-      | else-is-live w ↦ (omega (arith, i, w.live-is, no' (h ∙ w.if-is_live.false)), omega (arith, i, w.live-is))
+      | then-is_live w ↦ (omega (arith, i, w.live-is, yes' (h ∙ w.if-is_live.true)), omega (arith, i, w.live-is))
+      | else-is_live w ↦ (omega (arith, i, w.live-is, no' (h ∙ w.if-is_live.false)), omega (arith, i, w.live-is))
     ]
 
 pub returns : goal.returns

@@ -2,10 +2,9 @@ use Rattle.entries.proofs.Side.{entry, get_d_beside, length-beside}
 use Rattle.entries.proofs.list.stands_in.Goals as goal
 use Rattle.entries.specs.Beside.{beside}
 use Rattle.held.proofs.Entries.{is, stands-live-more}
-use Rattle.parts.specs.declared.account.Entry.{Entry}
 use Rattle.service_rules.specs.Memory.{live_of, stands}
 use Rattle.std.proofs.lemmas.List.{at_drop_all}
-use Rattle.std.proofs.Common.{◌≡◌, Bool, true, false, length, get_or, sym, ap, ◌∙◌, arith, rules}
+use Rattle.std.proofs.Common.{◌≡◌, true, false, get_or, sym, ap, ◌∙◌, arith, rules}
 
 pub look-preserved : goal.look-preserved
 look-preserved c =

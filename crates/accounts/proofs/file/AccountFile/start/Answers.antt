@@ -1,4 +1,4 @@
-use Rattle.std.proofs.Common.{◌≡◌, ℕ, Bool, ◌&&◌, leb, List, length, replicate, Option, sym, ap, ◌∙◌, subst}
+use Rattle.std.proofs.Common.{ℕ, ◌&&◌, leb, List, length, replicate, Option, sym, ap, ◌∙◌, subst}
 use Rattle.accounts.proofs.file.AccountFile.start.Goals as goal
 use Rattle.accounts.specs.File.{holding}
 use Rattle.accounts.specs.Payload.{measure}
