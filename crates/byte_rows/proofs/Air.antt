@@ -1,6 +1,6 @@
 -- What can be worked out, and what the bytes of a lock stand for. Assumes nothing.
-use Rattle.std.proofs.Common.{◌≡◌, ℕ, suc, Bool, true, false, cond, ◌⊎◌, List, [], ◌∷◌, ◌++◌, map, length, take, Some, None, Option, sym, refl, ap, ◌∙◌, subst, inl, inr, arith}
-use Rattle.byte_rows.specs.Premise.{MadeSo, Sound, Try, WorkedOut, nonces}
+use Rattle.std.proofs.Common.{◌≡◌, ℕ, suc, Bool, true, false, cond, ◌⊎◌, List, [], ◌∷◌, ◌++◌, map, length, take, Some, None, sym, refl, ap, ◌∙◌, subst, inl, inr, arith}
+use Rattle.byte_rows.specs.Premise.{MadeSo, Try, WorkedOut, nonces}
 use Rattle.byte_rows.specs.System.{Basis, Bytewise, Made, lock_of}
 use Rattle.byte_rows.specs.Term.{Whole, air_of, inside_term, lock_term, made_term, name_in, term_among}
 use Rattle.locked.specs.Locked.{Bytes, Locks}

@@ -1,5 +1,5 @@
 -- Each call over bytes is an act on what was opened. Assumes nothing.
-use Rattle.std.proofs.Common.{◌≡◌, ℕ, zero, suc, ◌<◌, Bool, true, false, cond, eqb, ◌⊎◌, List, [], ◌∷◌, ◌++◌, length, Some, None, Ok, Err, Option, Result, sym, refl, ap, ◌∙◌, subst, inl, inr, eqb-true}
+use Rattle.std.proofs.Common.{◌≡◌, ℕ, suc, Bool, true, false, cond, eqb, ◌⊎◌, List, [], ◌∷◌, ◌++◌, length, Some, None, Ok, Option, Result, sym, refl, ap, ◌∙◌, subst, inl, inr, eqb-true}
 use Rattle.box_rules.specs.Chest.{Boxed}
 use Rattle.box_rules.specs.Keys.{letter_keys}
 use Rattle.box_rules.specs.Letter.{confirmed, letter_conditions, pending_for, shown_for, taken, taken_after, taken_from}
@@ -8,7 +8,6 @@ use Rattle.box_rules.specs.Table.{oldest}
 use Rattle.box_rules.specs.declared.answer.Answer as Told
 use Rattle.box_rules.specs.declared.answer.Answer.TheVariants as told
 use Rattle.box_rules.specs.declared.line.Held.{Held}
-use Rattle.box_rules.specs.declared.line.Line.{Line}
 use Rattle.box_rules.specs.declared.line.Pass.{Pass}
 use Rattle.box_rules.specs.declared.line.Pending.{Pending}
 use Rattle.box_rules.specs.declared.line.Sought.TheVariants.{AtService}
@@ -18,38 +17,37 @@ use Rattle.box_side.proofs.Tickets.{taken-by, taken_after-by, wanted_by, wanted_
 use Rattle.box_side.specs.Box as box
 use Rattle.box_side.specs.Box.{under_of}
 use Rattle.byte_rows.proofs.Air.{Fronted, gets-all, gets-later, map-mem, opened-gets}
-use Rattle.byte_rows.proofs.Reading.{ReadAsking, ReadLetter, ReadLogin, asking-read-house, asking-read-service, letter-read, login-read, opened-as, opened-by, opened-first}
+use Rattle.byte_rows.proofs.Reading.{ReadAsking, asking-read-house, asking-read-service, letter-read, login-read, opened-as, opened-by, opened-first}
 use Rattle.byte_rows.proofs.Simulates.{C, FitsAnswer, FitsCall, FitsReply, FitsTold, Goes, Known, N, answers, at-blind, at_same, blind, box-changed, more-words, quiet, replies, says, seen, stays, take-mem, theft, with-boxes}
-use Rattle.byte_rows.specs.Premise.{Alone, Heard, HeardByBox, HeardByHouse, HeardByService, Meets, Sound, Try, asking_tries, box_tries, house_tries, nonces, service_tries, ticket_tries, tries_in}
+use Rattle.byte_rows.specs.Premise.{Alone, Heard, HeardByBox, HeardByHouse, HeardByService, Meets, Try, asking_tries, box_tries, house_tries, nonces, service_tries, ticket_tries, tries_in}
 use Rattle.byte_rows.specs.Row.{act_at_box, act_at_house, act_at_service, act_of}
 use Rattle.byte_rows.specs.System.{Basis, Bytewise, Call, Made, answered, answer_made, box_says, box-left, brings, closes, crashes, device, hands, opens, read_by_box, read_by_house, read_by_service, replied, reply_made, sent_word, steals, step, tells, told_by, told_made, wants}
 use Rattle.byte_rows.specs.System as bytes
 use Rattle.byte_rows.specs.Term.{Content, Whole, air_of, content_term, framed_term, inside_term, lock_term, name_in, read_or, word_term}
 use Rattle.byte_rows.specs.Term as term
-use Rattle.contents.specs.Inside.{read_asking, read_letter, read_login, read_ticket}
+use Rattle.contents.specs.Inside.{read_ticket}
 use Rattle.house_rules.specs.Account.{own_key}
 use Rattle.house_rules.specs.House.{Home}
 use Rattle.house_rules.specs.declared.reply.Reply.{Reply}
 use Rattle.house_rules.specs.declared.reply.Reply.TheVariants.{Granted, Refused as NotGranted}
 use Rattle.house_side.specs.House as house
-use Rattle.locked.specs.Locked.{Bytes, Locks, asking_ok, ticket_in}
+use Rattle.locked.specs.Locked.{Bytes, Locks}
 use Rattle.parts.specs.Condition.{first_fault, unless}
 use Rattle.parts.specs.declared.fault.Fault.{Fault}
 use Rattle.parts.specs.declared.word.Asking.{Asking}
 use Rattle.parts.specs.declared.word.Key.{Key}
 use Rattle.parts.specs.declared.word.Letter.{Letter}
 use Rattle.parts.specs.declared.word.Login.{Login}
-use Rattle.parts.specs.declared.word.Receipt.{Receipt}
 use Rattle.parts.specs.declared.word.Ticket.{Ticket}
 use Rattle.parts.specs.declared.word.What.{What}
 use Rattle.rows.proofs.Names.{draws-named}
 use Rattle.rows.specs.Name.{Apart, name_of, own_of}
 use Rattle.rows.specs.System.{Act, Box, Can, House, New, Reader, Service, System, at, under_key}
 use Rattle.rows.specs.System as acts
-use Rattle.rows.specs.Word.{answer_sent, asking_term, letter_term, login_term, reply_drawn, reply_sent, ticket_term, told_drawn, told_sent}
+use Rattle.rows.specs.Word.{answer_sent, asking_term, letter_term, reply_drawn, reply_sent, ticket_term, told_drawn, told_sent}
 use Rattle.service_rules.specs.Service.{View}
 use Rattle.service_rules.specs.declared.answer.Answer.{Answer}
-use Rattle.service_rules.specs.declared.answer.Answer.TheVariants.{Done, Refused}
+use Rattle.service_rules.specs.declared.answer.Answer.TheVariants.{Refused}
 use Rattle.service_side.specs.Service as service
 use Rattle.tickets.specs.Term.{Gets, Lock, Term, even}
 use Rattle.tickets.specs.Term

@@ -1,9 +1,9 @@
 -- Every word that is sent frames as it was written, and the locks in it stand for what was locked. Assumes nothing.
-use Rattle.std.proofs.Common.{◌≡◌, ℕ, zero, suc, ◌+◌, ◌^◌, ◌<◌, ◌≤◌, Bool, true, false, cond, eqb, ltb, leb, ◌⊎◌, List, [], ◌∷◌, ◌++◌, length, take, Some, None, Ok, Err, Option, Result, sym, refl, ap, ◌∙◌, subst, inl, inr, arith}
+use Rattle.std.proofs.Common.{◌≡◌, ℕ, ◌^◌, ◌<◌, ◌≤◌, Bool, true, false, cond, eqb, ltb, leb, ◌⊎◌, List, [], ◌∷◌, ◌++◌, length, take, Some, None, Ok, Err, Option, Result, sym, refl, ap, ◌∙◌, subst, inl, inr, arith}
 use Rattle.box_rules.specs.Chest.{Boxed, box_on_tick, fresh, ticket_of}
 use Rattle.box_rules.specs.Chest as chest
 use Rattle.box_rules.specs.Line.{wanted, wanted_after}
-use Rattle.box_rules.specs.Letter.{shown_for, taken, taken_after}
+use Rattle.box_rules.specs.Letter.{shown_for}
 use Rattle.box_rules.specs.Table.{oldest}
 use Rattle.box_rules.specs.declared.answer.Answer as Told
 use Rattle.box_rules.specs.declared.answer.Answer.TheVariants as told
@@ -12,45 +12,37 @@ use Rattle.box_rules.specs.declared.line.Pending.{Pending}
 use Rattle.box_rules.specs.declared.line.Sought.TheVariants.{AtService}
 use Rattle.box_side.specs.Box as box
 use Rattle.byte_rows.proofs.Air.{Fronted, made-stands}
-use Rattle.byte_rows.proofs.Ranges.{BoxOk, GoodAnswer, GoodAsking, GoodReply, GoodTold, LineOk, ask-good, asking-number, login-good, login-number, service-good, taken-good, wanted-good}
+use Rattle.byte_rows.proofs.Ranges.{BoxOk, GoodAnswer, GoodAsking, GoodReply, GoodTold, ask-good, asking-number, login-good, login-number, service-good, taken-good, wanted-good}
 use Rattle.byte_rows.proofs.Reading.{asking-read-house, asking-read-service, letter-read, login-read}
 use Rattle.byte_rows.proofs.Rows.{EachFits, Part, grown-made, made_by, part-before}
-use Rattle.byte_rows.proofs.Simulates.{C, FitsAnswer, FitsAsking, FitsCall, FitsReply, FitsTold, N, ticket-held}
-use Rattle.byte_rows.specs.Premise.{Alone, Each, Fair, Heard, HeardByBox, HeardByHouse, HeardByService, Meets, Row, box_tries, nonces, tries_in, whole_of}
-use Rattle.byte_rows.specs.System.{Basis, Bytewise, Call, Made, answer_made, answered, asking_made, box-left, brings, closes, crashes, device, first, hands, lock_of, opens, read_by_box, read_by_house, read_by_service, replied, reply_made, run, steals, step, tells, told_by, told_made, wants}
-use Rattle.byte_rows.specs.Term.{Content, Whole, content_term, inside_term, lock_term, made_term, name_in, read_or}
+use Rattle.byte_rows.proofs.Simulates.{FitsAnswer, FitsAsking, FitsCall, FitsReply, FitsTold, ticket-held}
+use Rattle.byte_rows.specs.Premise.{Each, Fair, HeardByBox, Meets, Row, nonces, whole_of}
+use Rattle.byte_rows.specs.System.{Basis, Bytewise, Call, Made, answer_made, answered, asking_made, box-left, brings, closes, crashes, device, hands, lock_of, opens, read_by_box, read_by_house, read_by_service, replied, reply_made, run, steals, step, tells, told_by, told_made, wants}
+use Rattle.byte_rows.specs.Term.{Content, Whole, content_term, lock_term, name_in, read_or}
 use Rattle.codec.proofs.Insides.{asking-codec, both, cond-both-true, letter-codec, login-codec, receipt-codec, ticket-codec}
 use Rattle.codec.proofs.Words.{word-codec}
 use Rattle.codec.specs.Law.{AskingFits, LetterFits, LoginFits, ReceiptFits, TicketFits}
-use Rattle.contents.specs.Inside.{Asked, read_asking, read_letter, read_login, read_receipt, read_ticket, write_asking, write_letter, write_login, write_receipt, write_ticket}
-use Rattle.held.specs.Crash.{rejunk, reread}
-use Rattle.held.specs.declared.memory.Cut.{Cut}
+use Rattle.contents.specs.Inside.{Asked, write_asking, write_letter, write_login, write_receipt, write_ticket}
 use Rattle.house_rules.specs.House.{Home}
 use Rattle.house_rules.specs.House as house-rules
 use Rattle.house_rules.specs.declared.reply.Reply.{Reply}
 use Rattle.house_rules.specs.declared.reply.Reply.TheVariants.{Granted, Refused as NotGranted}
 use Rattle.house_side.specs.House as house
-use Rattle.locked.specs.Locked.{Bytes, Locks, asked_of, asking_lock, asking_ok, digest_of, letter_lock, login_lock, receipt_lock, ticket_lock, words_in}
-use Rattle.locked.specs.Locked as locked
+use Rattle.locked.specs.Locked.{Bytes, Locks, asked_of, asking_lock, asking_ok, digest_of, letter_lock, login_lock, receipt_lock, ticket_lock}
 use Rattle.parts.specs.Condition.{first_fault, unless}
-use Rattle.parts.specs.Tick.{clock}
-use Rattle.parts.specs.declared.account.Entry.{Entry}
 use Rattle.parts.specs.declared.fault.Fault.{Fault}
 use Rattle.parts.specs.declared.fault.Fault.TheVariants.{OutOfRange}
 use Rattle.parts.specs.declared.lock.Lock.{Lock}
-use Rattle.parts.specs.declared.tick.Ticked.{Ticked}
 use Rattle.parts.specs.declared.tick.Ticked.TheVariants.{Back, On, Stopped}
 use Rattle.parts.specs.declared.word.Asking.{Asking}
 use Rattle.parts.specs.declared.word.Letter.{Letter}
 use Rattle.parts.specs.declared.word.Login.{Login}
 use Rattle.parts.specs.declared.word.Receipt.{Receipt}
 use Rattle.parts.specs.declared.word.Ticket.{Ticket}
-use Rattle.parts.specs.declared.word.What.{What}
 use Rattle.rows.specs.Name.{Apart, own_of}
-use Rattle.rows.specs.System.{House, Reader, Service, at, crashed_home, crashed_view, restarted, view_of}
-use Rattle.rows.specs.Word.{asking_term, letter_term, login_term, receipt_term, ticket_term, what_term}
-use Rattle.service_rules.specs.Service.{View}
-use Rattle.service_rules.specs.Side.{begun, on_tick, set_tick, unfit}
+use Rattle.rows.specs.System.{House, Reader, Service, at, restarted}
+use Rattle.rows.specs.Word.{asking_term, letter_term, login_term, receipt_term, ticket_term}
+use Rattle.service_rules.specs.Side.{on_tick, set_tick}
 use Rattle.service_rules.specs.declared.answer.Answer.{Answer}
 use Rattle.service_rules.specs.declared.answer.Answer.TheVariants.{Done, Refused}
 use Rattle.service_rules.specs.declared.side.Side.{Side}
@@ -58,7 +50,6 @@ use Rattle.service_side.specs.Service as service
 use Rattle.std.proofs.lemmas.List.{length-append, take-take}
 use Rattle.std.proofs.lemmas.Bool.{eqb-true, le-leb, leb-false}
 use Rattle.tickets.specs.Term.{Num, Pair, Term}
-use Rattle.tickets.specs.Term
 use Rattle.wire.specs.Word.{Frame, framed, lock_fits, write_word}
 use Rattle.wire.specs.Word as frame
 use mathlib.Core.List.Memᴰ

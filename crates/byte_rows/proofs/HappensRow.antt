@@ -1,28 +1,27 @@
 -- The row of specs/Happens.antt meets every premise. Assumes nothing.
-use Rattle.std.proofs.Common.{◌≡◌, ℕ, ◌+◌, ◌-◌, ◌*◌, ◌<◌, ◌≤◌, Bool, true, false, ◌&&◌, ltb, ◌⊎◌, List, [], ◌∷◌, ◌++◌, map, length, take, drop, replicate, Some, None, Option, sym, refl, ap, ◌∙◌, subst, inl, inr, arith}
+use Rattle.std.proofs.Common.{◌≡◌, ℕ, ◌+◌, ◌-◌, Bool, true, ◌&&◌, ltb, ◌⊎◌, List, [], ◌∷◌, ◌++◌, map, length, take, drop, replicate, Some, None, sym, refl, ap, ◌∙◌, subst, inl, inr, arith}
 use Rattle.byte_rows.proofs.Air.{gets-spelled, map-mem}
 use Rattle.byte_rows.proofs.Ranges.{take_short}
 use Rattle.byte_rows.specs.Happens.{CanHappen, asks, basis, before, happens, key_of, mark, plain, served, number_of, plain_lock, w1, w2, w3, w4, w5, w6, words}
-use Rattle.byte_rows.specs.Premise.{Alone, Each, Fair, Heard, HeardByBox, HeardByHouse, HeardByService, MadeSo, Row, Sound, Try, WorkedOut, box_tries, house_tries, nonces, service_tries, tries_in, whole_of}
+use Rattle.byte_rows.specs.Premise.{Alone, Each, Fair, Heard, MadeSo, Row, Sound, Try, WorkedOut, whole_of}
 use Rattle.byte_rows.specs.Served.{Opens, Ready, service_letter}
-use Rattle.byte_rows.specs.System.{Bytewise, Call, Made, brings, closes, read_by_house, run, steals, tells, wants}
+use Rattle.byte_rows.specs.System.{Bytewise, Call, brings, run, steals, wants}
 use Rattle.byte_rows.specs.Term.{Whole, air_of, inside_term, name_in, term_among, word_term}
 use Rattle.contents.specs.Field.{Bytes as Octets, part}
 use Rattle.contents.specs.Inside.{write_login}
 use Rattle.house_side.specs.House.{Read, logs}
-use Rattle.locked.specs.Locked.{Bytes, Locks, letter_lock}
+use Rattle.locked.specs.Locked.{Bytes, letter_lock}
 use Rattle.parts.specs.Condition.{first_fault}
 use Rattle.parts.specs.declared.word.Key.{Key}
 use Rattle.parts.specs.declared.word.Login.{Login}
 use Rattle.rows.proofs.Names.{same_refl}
-use Rattle.rows.specs.Name.{Apart, draw_name, own_name, own_of}
+use Rattle.rows.specs.Name.{Apart, draw_name, own_name}
 use Rattle.rows.specs.System.{House, Reader, Service}
 use Rattle.std.proofs.lemmas.List.{drop_at, drop-drop, length-append, take_at}
 use Rattle.std.proofs.lemmas.Bool.{cond-true, ltb-true}
 use Rattle.std.specs.Str.{bytes_eq}
 use Rattle.tickets.specs.Term.{Gets, Own, Term}
 use Rattle.tickets.specs.Term
-use Rattle.wire.specs.Word.{framed}
 use mathlib.Core.List.Memᴰ
 use mathlib.Core.List.{Memᴰ}
 use Rattle.rows.proofs.Sides.{and_left, and_right}

@@ -1,5 +1,5 @@
 -- The locks of this code are fair, and the promises over bytes. Assumes nothing.
-use Rattle.std.proofs.Common.{◌≡◌, ℕ, ◌+◌, ◌≤◌, List, arith}
+use Rattle.std.proofs.Common.{arith}
 use Rattle.byte_rows.proofs.Fits.{fits, fronts}
 use Rattle.byte_rows.proofs.Promises as promises
 use Rattle.byte_rows.proofs.ServedRow as served-row
@@ -7,7 +7,7 @@ use Rattle.byte_rows.specs.Premise.{Fair}
 use Rattle.byte_rows.specs.Row.{AskedOnce, Fresh, InEvery, InOurs, IsRow, Kept, LoggedIn, Over}
 use Rattle.byte_rows.specs.Served.{Opens, ServedByAll, ServedByOurs}
 use Rattle.byte_rows.specs.System.{Basis}
-use Rattle.locked.specs.Locked.{Bytes, Locks, ours}
+use Rattle.locked.specs.Locked.{Locks, ours}
 use Rattle.seal.proofs.Opening.{length-lock, opens-again, take-lock}
 
 pub ours-fair : Fair ours

@@ -1,14 +1,13 @@
 -- The promises over rows of bytes, from those over rows of opened contents. Assumes nothing.
-use Rattle.std.proofs.Common.{◌≡◌, ℕ, ◌+◌, ◌<◌, ◌≤◌, true, false, List, [], ◌∷◌, ◌++◌, length, sym, refl, ap, ◌∙◌, subst, arith}
-use Rattle.box_side.specs.Tickets.{boxed_by}
+use Rattle.std.proofs.Common.{◌≡◌, ℕ, ◌+◌, ◌≤◌, true, List, [], ◌∷◌, ◌++◌, sym, refl, ap, subst}
 use Rattle.byte_rows.proofs.Air.{Fronted, gets-all}
 use Rattle.byte_rows.proofs.Rows.{EachFits, Part, Same, Tells, part-before, same_row, tells-same}
-use Rattle.byte_rows.proofs.Simulates.{C, N, seen}
+use Rattle.byte_rows.proofs.Simulates.{C, N}
 use Rattle.byte_rows.specs.Premise.{Each, Row, whole_of}
 use Rattle.byte_rows.specs.Row.{AskedOnce, Fresh, IsRow, Kept, LoggedIn, Over, SameRow, act_of, acts_of}
 use Rattle.byte_rows.specs.Row as row
-use Rattle.byte_rows.specs.System.{Basis, Bytewise, Call, Made, run}
-use Rattle.byte_rows.specs.Term.{Whole, air_of, name_in}
+use Rattle.byte_rows.specs.System.{Basis, Call, run}
+use Rattle.byte_rows.specs.Term.{Whole, name_in}
 use Rattle.house_rules.specs.Account.{closed}
 use Rattle.house_rules.specs.House.{Home}
 use Rattle.locked.specs.Locked.{Locks}
@@ -18,7 +17,7 @@ use Rattle.rows.specs.Row as rows
 use Rattle.rows.specs.Setting.{rules_of}
 use Rattle.rows.specs.System.{Act, Possible, System}
 use Rattle.rows.specs.System as acts
-use Rattle.tickets.specs.State.{Safe, is_in}
+use Rattle.tickets.specs.State.{Safe}
 use Rattle.tickets.specs.Term.{Gets, Term}
 use mathlib.Core.List.{Memᴰ}
 

@@ -1,10 +1,10 @@
 -- What is locked fits its fields: numbers of two bytes and ticks of eight, drawn bytes of their lengths. Assumes nothing.
-use Rattle.std.proofs.Common.{◌≡◌, ℕ, zero, suc, ◌+◌, ◌-◌, ◌*◌, ◌^◌, ◌<◌, ◌≤◌, Bool, true, false, cond, not, ◌&&◌, ◌||◌, eqb, ltb, leb, ◌⊎◌, List, [], ◌∷◌, ◌++◌, length, get_or, take, drop, replicate, Some, None, Ok, Err, Option, Result, sym, refl, ap, ◌∙◌, subst, inl, inr, arith, length-drop}
-use Rattle.box_rules.specs.Chest.{Boxed, asked, asking_of, tick_of, two_bytes, what_of}
+use Rattle.std.proofs.Common.{◌≡◌, ℕ, zero, suc, ◌+◌, ◌-◌, ◌*◌, ◌^◌, ◌<◌, ◌≤◌, Bool, true, false, cond, not, ◌&&◌, eqb, ltb, leb, ◌⊎◌, List, [], ◌∷◌, length, get_or, take, drop, replicate, Some, None, Ok, Err, Option, Result, sym, refl, ap, subst, inl, inr, arith, length-drop}
+use Rattle.box_rules.specs.Chest.{Boxed, asking_of, two_bytes}
 use Rattle.box_rules.specs.Letter.{letter_conditions, letter_judged, pending_for, pending_in, settled, stored, taken, taken_after, taken_by, taken_from}
 use Rattle.box_rules.specs.Letter as letters
-use Rattle.box_rules.specs.Line.{counted, line_conditions, line_judged, line_of, logged_in, login_of, pass_by, sent_after, sent_by, unread, wanted, wanted_after}
-use Rattle.box_rules.specs.Table.{matches, oldest, put, without}
+use Rattle.box_rules.specs.Line.{line_conditions, line_of, pass_by, sent_after, sent_by, unread, wanted, wanted_after}
+use Rattle.box_rules.specs.Table.{oldest}
 use Rattle.box_rules.specs.declared.answer.Answer as Told
 use Rattle.box_rules.specs.declared.answer.Answer.TheVariants as told
 use Rattle.box_rules.specs.declared.line.Held.{Held}
@@ -19,7 +19,6 @@ use Rattle.codec.proofs.Insides.{both}
 use Rattle.codec.specs.Law.{AskingFits, LetterFits, LoginFits, ReceiptFits, TicketFits}
 use Rattle.contents.specs.Inside.{Asked, begins, is_asking, is_inside, read_asking, read_login, what_length}
 use Rattle.house_rules.specs.Account.{unknown, is_absent, account_of}
-use Rattle.house_rules.specs.Fresh.{fresh_of}
 use Rattle.house_rules.specs.Give.{giving}
 use Rattle.house_rules.specs.House.{Home, until_of}
 use Rattle.house_rules.specs.House as house-rules
@@ -38,11 +37,10 @@ use Rattle.parts.specs.declared.word.Asking.{Asking}
 use Rattle.parts.specs.declared.word.Key.{Key}
 use Rattle.parts.specs.declared.word.Letter.{Letter}
 use Rattle.parts.specs.declared.word.Login.{Login}
-use Rattle.parts.specs.declared.word.Number.{Number}
 use Rattle.parts.specs.declared.word.Ticket.{Ticket}
 use Rattle.parts.specs.declared.word.What.{What}
-use Rattle.rows.proofs.Sides.{clear-home, not-false, wanted-known, ClearHome, and_left, and_right}
-use Rattle.rows.proofs.Tables.{mem-take, oldest-found, pass-by, put-cases, without-there}
+use Rattle.rows.proofs.Sides.{clear-home, and_right}
+use Rattle.rows.proofs.Tables.{oldest-found, pass-by, put-cases, without-there}
 use Rattle.rows.specs.Name.{spell}
 use Rattle.rows.specs.Word.{what_term, words_of}
 use Rattle.service_rules.specs.Service.{View, nobody}
@@ -50,10 +48,10 @@ use Rattle.service_rules.specs.Service as service-rules
 use Rattle.service_rules.specs.declared.answer.Answer.{Answer}
 use Rattle.service_rules.specs.declared.answer.Answer.TheVariants.{Done, Refused}
 use Rattle.std.proofs.lemmas.List.{length-take-le, take_at}
-use Rattle.std.proofs.lemmas.Bool.{eqb-true, leb-true, ltb-false}
+use Rattle.std.proofs.lemmas.Bool.{eqb-true, ltb-false}
 use Rattle.std.specs.Str.{bytes_eq}
-use Rattle.tickets.proofs.Bools.{clash, or-false-left, or-false-right}
-use Rattle.tickets.specs.Term.{Num, Term}
+use Rattle.tickets.proofs.Bools.{or-false-left, or-false-right}
+use Rattle.tickets.specs.Term.{Num}
 use Rattle.wire.specs.Word.{lock_fits}
 use mathlib.Core.List.{Memᴰ}
 

@@ -1,12 +1,11 @@
 -- What stands behind a word that was read: how it was framed, which locks opened, and what was inside. Assumes nothing.
-use Rattle.std.proofs.Common.{◌≡◌, ℕ, suc, ◌≤◌, Bool, true, false, cond, eqb, List, [], ◌∷◌, Some, None, Ok, Err, Option, Result, sym, refl, ap, ◌∙◌, subst, arith, eqb-true}
+use Rattle.std.proofs.Common.{◌≡◌, ℕ, suc, ◌≤◌, Bool, true, false, cond, List, [], ◌∷◌, Some, None, Ok, Err, Option, Result, sym, refl, ap, ◌∙◌, subst, arith}
 use Rattle.box_rules.specs.Chest.{Boxed}
 use Rattle.box_rules.specs.Keys.{letter_keys}
 use Rattle.box_rules.specs.declared.line.Under.{Under}
-use Rattle.box_rules.specs.declared.line.Under.TheVariants.{Own, Session}
 use Rattle.box_side.specs.Box as box
 use Rattle.box_side.specs.Box.{opens_first, under_of}
-use Rattle.contents.specs.Inside.{read_asking, read_letter, read_login, read_receipt, read_ticket}
+use Rattle.contents.specs.Inside.{read_asking, read_letter, read_login, read_receipt}
 use Rattle.house_rules.specs.Account.{own_key, unknown}
 use Rattle.house_rules.specs.House.{Home}
 use Rattle.house_side.specs.House as house

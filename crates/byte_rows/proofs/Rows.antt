@@ -1,18 +1,16 @@
 -- A row of calls over bytes is a row of acts on what was opened, which tells the same. Assumes nothing.
-use Rattle.std.proofs.Common.{◌≡◌, ℕ, zero, suc, ◌<◌, List, [], ◌∷◌, ◌++◌, length, Some, None, Option, sym, refl, ap, ◌∙◌, subst, append_assoc}
-use Rattle.box_rules.specs.Chest.{Boxed}
-use Rattle.box_rules.specs.Letter.{shown_for, taken}
+use Rattle.std.proofs.Common.{◌≡◌, ℕ, suc, List, [], ◌∷◌, ◌++◌, length, Some, None, Option, sym, refl, ap, ◌∙◌, subst, append_assoc}
+use Rattle.box_rules.specs.Letter.{shown_for}
 use Rattle.box_rules.specs.Line.{wanted}
 use Rattle.box_rules.specs.Table.{oldest}
 use Rattle.box_rules.specs.declared.answer.Answer as Told
-use Rattle.box_rules.specs.declared.answer.Answer.TheVariants as told
 use Rattle.box_rules.specs.declared.line.Pending.{Pending}
 use Rattle.box_rules.specs.declared.line.Sought.TheVariants.{AtService}
 use Rattle.box_side.proofs.Tickets.{taken-by, wanted_by}
 use Rattle.box_side.specs.Box as box
 use Rattle.byte_rows.proofs.Air.{Fronted}
 use Rattle.byte_rows.proofs.Calls.{goes}
-use Rattle.byte_rows.proofs.Simulates.{C, FitsCall, Goes, Known, N, seen}
+use Rattle.byte_rows.proofs.Simulates.{C, FitsCall, Known, N, seen}
 use Rattle.byte_rows.specs.Premise.{Each, nonces}
 use Rattle.byte_rows.specs.Row.{act_at_box, act_at_house, act_at_service, act_of, acts_of, taken_read}
 use Rattle.byte_rows.specs.Row as row

@@ -1,7 +1,7 @@
 -- Six calls upon any row that meets the premises, and whoever is ready is served. Assumes nothing.
-use Rattle.std.proofs.Common.{◌≡◌, ℕ, suc, ◌+◌, ◌-◌, ◌*◌, ◌^◌, ◌<◌, ◌≤◌, Bool, true, false, cond, ◌&&◌, eqb, ltb, ◌⊎◌, List, [], ◌∷◌, ◌++◌, length, take, drop, replicate, Some, None, Ok, Err, Option, Result, sym, refl, ap, ◌∙◌, subst, inl, inr, arith, length-drop}
+use Rattle.std.proofs.Common.{◌≡◌, ℕ, suc, ◌+◌, ◌-◌, ◌^◌, ◌<◌, ◌≤◌, Bool, true, false, cond, ◌&&◌, eqb, ltb, ◌⊎◌, List, [], ◌∷◌, ◌++◌, length, take, drop, replicate, Some, None, Ok, Err, Option, Result, sym, refl, ap, ◌∙◌, subst, inl, inr, arith, length-drop}
 use Rattle.box_rules.specs.Chest.{Boxed, asked, asking_of, ticket_of, two_bytes}
-use Rattle.box_rules.specs.Keys.{from_end, house_keys, is_house, letter_keys, stray_keys}
+use Rattle.box_rules.specs.Keys.{house_keys, letter_keys, stray_keys}
 use Rattle.box_rules.specs.Letter.{letter_conditions, pending_for, settled, stored, taken, taken_after, taken_by, taken_from}
 use Rattle.box_rules.specs.Line.{counted, line_conditions, logged_in, login_of, unread, wanted, wanted_after}
 use Rattle.box_rules.specs.declared.answer.Answer as Told
@@ -18,20 +18,19 @@ use Rattle.box_side.specs.Box as box
 use Rattle.box_side.specs.Box.{opens_first, under_of}
 use Rattle.byte_rows.proofs.Fits.{InRange, fits, fronts, lock-fits, long-asking, long-letter, long-login, long-ticket, ranges}
 use Rattle.byte_rows.proofs.Promises.{row_same}
-use Rattle.byte_rows.proofs.Ranges.{BoxOk, GoodAnswer, GoodAsking, GoodReply, GoodTold, ask-good, login-good, taken-good, wanted-good}
-use Rattle.byte_rows.proofs.Reading.{opened-by, opened-first}
+use Rattle.byte_rows.proofs.Ranges.{BoxOk, GoodAsking, GoodReply, GoodTold, ask-good, login-good, taken-good, wanted-good}
+use Rattle.byte_rows.proofs.Reading.{opened-first}
 use Rattle.byte_rows.proofs.Simulates.{C, N, blind, seen}
-use Rattle.byte_rows.specs.Premise.{Fair, Row, whole_of}
+use Rattle.byte_rows.specs.Premise.{Fair, whole_of}
 use Rattle.byte_rows.specs.Row.{deeds, lines}
 use Rattle.byte_rows.specs.Served as six
 use Rattle.byte_rows.specs.Served.{Ends, Opens, Ready, Served}
 use Rattle.byte_rows.specs.System.{Basis, Bytewise, Call, answered, box_says, box_word, brings, read_by_house, replied, reply_made, run, sent_word, step, told_by, wants}
 use Rattle.byte_rows.specs.System as bytes
-use Rattle.byte_rows.specs.Term.{Whole}
 use Rattle.codec.proofs.Insides.{asking-codec, cond-both-true, letter-codec, login-codec, ticket-codec}
 use Rattle.codec.proofs.Words.{word-codec}
 use Rattle.contents.specs.Inside.{read_asking, read_letter, read_login, read_ticket, write_asking, write_letter, write_login, write_ticket}
-use Rattle.house_rules.specs.Account.{account_of, closed, is_absent, own_key, unknown}
+use Rattle.house_rules.specs.Account.{account_of, is_absent, own_key, unknown}
 use Rattle.house_rules.specs.Give.{giving}
 use Rattle.house_rules.specs.House.{Home, until_of}
 use Rattle.house_rules.specs.House as house-rules
@@ -40,7 +39,7 @@ use Rattle.house_side.specs.House as house
 use Rattle.locked.specs.Locked.{Bytes, Locks, Tried, asked_of, asking_in, asking_lock, asking_ok, digest_of, letter_lock, login_lock, opened_as, ticket_in, ticket_lock, what_in, words_in}
 use Rattle.locked.specs.Locked as locked
 use Rattle.parts.specs.Condition.{first_fault, unless}
-use Rattle.parts.specs.Drawn.{key_of, number_of}
+use Rattle.parts.specs.Drawn.{number_of}
 use Rattle.parts.specs.declared.fault.Fault.{Fault}
 use Rattle.parts.specs.declared.fault.Fault.TheVariants.{OutOfRange, Unknown}
 use Rattle.parts.specs.declared.lock.Lock.{Lock}
@@ -57,7 +56,7 @@ use Rattle.rows.proofs.ServedSteady.{Below, Steady, row-steady}
 use Rattle.rows.proofs.Tables.{mem-take}
 use Rattle.rows.specs.Name.{draw_name, named, name_of, own_name, own_of, spell}
 use Rattle.rows.specs.Row.{Deed, Wanted, deed_told, line_told}
-use Rattle.rows.specs.System.{Box, House, Reader, Service, System, at}
+use Rattle.rows.specs.System.{House, Reader, Service, System, at}
 use Rattle.rows.specs.Word.{reply_drawn, words_of}
 use Rattle.service_rules.specs.Service.{View, nobody}
 use Rattle.service_rules.specs.Service as service-rules
@@ -67,8 +66,8 @@ use Rattle.service_side.specs.Service as service
 use Rattle.std.proofs.lemmas.List.{take_at}
 use Rattle.std.proofs.lemmas.Bool.{and_from, and_left, and_right, cond-true, eq-eqb, eqb-true, ltb-false}
 use Rattle.std.specs.Str.{bytes_eq}
-use Rattle.tickets.proofs.Bools.{clash, either, or-false-left, or-false-right}
-use Rattle.tickets.specs.Term.{Drawn, Own, Term, even}
+use Rattle.tickets.proofs.Bools.{either, or-false-left, or-false-right}
+use Rattle.tickets.specs.Term.{Own, Term, even}
 use Rattle.wire.specs.Word.{Frame, framed, lock_fits}
 use Rattle.wire.specs.Word as frame
 use mathlib.Core.List.Memᴰ

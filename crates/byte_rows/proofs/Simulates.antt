@@ -1,60 +1,34 @@
 -- One call over bytes is one act on what was opened: the systems are the same, and what is sent can be worked out. Assumes nothing.
-use Rattle.std.proofs.Common.{◌≡◌, ℕ, zero, suc, ◌<◌, Bool, true, false, cond, eqb, ◌⊎◌, List, [], ◌∷◌, ◌++◌, map, length, take, Some, None, Ok, Err, Option, Result, sym, refl, ap, ◌∙◌, subst, inl, inr, arith, eqb-true}
-use Rattle.box_rules.specs.Chest.{Boxed, fresh, ticket_of}
-use Rattle.box_rules.specs.Keys.{letter_keys}
-use Rattle.box_rules.specs.Letter.{confirmed, shown_for, taken, taken_after, taken_from}
-use Rattle.box_rules.specs.Letter as letters
+use Rattle.std.proofs.Common.{◌≡◌, ℕ, zero, suc, ◌<◌, Bool, true, false, cond, eqb, ◌⊎◌, List, [], ◌∷◌, ◌++◌, map, length, take, Some, None, Ok, Option, Result, sym, refl, ap, ◌∙◌, subst, inl, inr, arith, eqb-true}
+use Rattle.box_rules.specs.Chest.{Boxed, ticket_of}
 use Rattle.box_rules.specs.Line.{wanted, wanted_after}
-use Rattle.box_rules.specs.Line as lines
-use Rattle.box_rules.specs.Table.{oldest, put}
 use Rattle.box_rules.specs.declared.answer.Answer as Told
 use Rattle.box_rules.specs.declared.answer.Answer.TheVariants as told
 use Rattle.box_rules.specs.declared.line.Held.{Held}
-use Rattle.box_rules.specs.declared.line.Pass.{Pass}
-use Rattle.box_rules.specs.declared.line.Pending.{Pending}
-use Rattle.box_rules.specs.declared.line.Sought.TheVariants.{AtService}
-use Rattle.box_rules.specs.declared.line.Under.{Under}
-use Rattle.box_rules.specs.declared.line.Under.TheVariants.{Own as OwnKey, Session}
-use Rattle.box_side.proofs.Tickets.{taken-by, taken_after-by, wanted_by, wanted_after-by}
 use Rattle.box_side.specs.Box as box
 use Rattle.box_side.specs.Box.{under_of}
 use Rattle.box_side.specs.Tickets.{boxed_by}
-use Rattle.byte_rows.proofs.Air.{Fronted, gets-all, gets-later, gets-spelled, map-mem, opened-gets}
-use Rattle.byte_rows.proofs.Reading.{ReadAsking, ReadLetter, ReadLogin, asking-read-house, asking-read-service, letter-read, login-read, opened-as, opened-by, opened-first}
-use Rattle.byte_rows.specs.Premise.{Alone, Heard, HeardByBox, HeardByHouse, HeardByService, Meets, Sound, Try, box_tries, house_tries, nonces, service_tries, ticket_tries, tries_in}
-use Rattle.byte_rows.specs.Row.{act_at_box, act_at_house, act_at_service, act_of, names_of}
-use Rattle.byte_rows.specs.System.{Basis, Bytewise, Call, Made, answered, box_says, box_word, box-left, brings, closes, crashes, device, hands, key_name, opens, read_by_box, read_by_house, read_by_service, replied, sent_word, setting_of, steals, step, tells, told_by, told_made, wants, with-box}
-use Rattle.byte_rows.specs.System as bytes
-use Rattle.byte_rows.specs.Term.{Content, Whole, air_of, content_term, frame_term, framed_term, inside_term, lock_term, name_in, read_as, word_term}
-use Rattle.contents.specs.Inside.{read_asking, read_letter, read_login, read_ticket}
-use Rattle.house_rules.specs.Account.{own_key}
-use Rattle.house_rules.specs.House.{Home}
-use Rattle.house_rules.specs.House as house-rules
+use Rattle.byte_rows.proofs.Air.{gets-later, map-mem}
+use Rattle.byte_rows.specs.Premise.{Meets}
+use Rattle.byte_rows.specs.Row.{names_of}
+use Rattle.byte_rows.specs.System.{Basis, Bytewise, Call, answered, box_says, box_word, brings, closes, crashes, device, hands, key_name, opens, read_by_box, replied, sent_word, setting_of, steals, step, tells, told_by, wants, with-box}
+use Rattle.byte_rows.specs.Term.{Whole, air_of, frame_term, framed_term, lock_term, word_term}
 use Rattle.house_rules.specs.declared.reply.Reply.{Reply}
 use Rattle.house_rules.specs.declared.reply.Reply.TheVariants.{Granted, Refused as NotGranted}
 use Rattle.house_side.specs.House as house
-use Rattle.locked.specs.Locked.{Bytes, Locks, asking_lock, asking_ok, digest_of, letter_lock, login_lock, receipt_lock, refusal_word, ticket_in, ticket_lock}
-use Rattle.parts.specs.Condition.{first_fault, unless}
+use Rattle.locked.specs.Locked.{Bytes, Locks, asking_lock, letter_lock, login_lock, receipt_lock, refusal_word, ticket_lock}
 use Rattle.parts.specs.Fault.{class_of}
 use Rattle.parts.specs.declared.fault.Class.{Class}
 use Rattle.parts.specs.declared.fault.Class.TheVariants.{NotNow, NotReadable, NotYou}
 use Rattle.parts.specs.declared.fault.Fault.{Fault}
 use Rattle.parts.specs.declared.lock.Lock.{Lock}
 use Rattle.parts.specs.declared.word.Asking.{Asking}
-use Rattle.parts.specs.declared.word.Key.{Key}
-use Rattle.parts.specs.declared.word.Letter.{Letter}
-use Rattle.parts.specs.declared.word.Login.{Login}
-use Rattle.parts.specs.declared.word.Receipt.{Receipt}
-use Rattle.parts.specs.declared.word.Ticket.{Ticket}
-use Rattle.parts.specs.declared.word.What.{What}
-use Rattle.rows.proofs.Names.{draws-named, own-named}
-use Rattle.rows.specs.Name.{Apart, Naming, name_of, own_of}
+use Rattle.rows.proofs.Names.{own-named}
+use Rattle.rows.specs.Name.{Naming, own_of}
 use Rattle.rows.specs.Setting.{Setting}
 use Rattle.rows.specs.System.{Act, Box, Can, House, New, Reader, Service, System, at}
 use Rattle.rows.specs.System as acts
-use Rattle.rows.specs.Word.{answer_sent, asking_term, letter_term, login_term, receipt_term, reply_drawn, reply_sent, ticket_term, told_drawn, told_sent}
-use Rattle.service_rules.specs.Service.{View, view}
-use Rattle.service_rules.specs.Service as service-rules
+use Rattle.rows.specs.Word.{answer_sent, asking_term, letter_term, login_term, receipt_term, reply_sent, ticket_term, told_sent}
 use Rattle.service_rules.specs.declared.answer.Answer.{Answer}
 use Rattle.service_rules.specs.declared.answer.Answer.TheVariants.{Done, Refused}
 use Rattle.service_side.specs.Service as service

@@ -8,7 +8,6 @@
 -- happens          the row of calls
 -- CanHappen        it meets every premise, and tells just that line, that deed and those keys
 use Rattle.std.specs.Prelude.{◌≡◌, ℕ, ◌+◌, ◌-◌, ◌*◌, true, cond, List, [], ◌∷◌, ◌++◌, length, take, replicate, Some, None, Option, slice_index}
-use Rattle.box_rules.specs.Chest.{two_bytes}
 use Rattle.byte_rows.specs.Premise.{Fair, Row}
 use Rattle.byte_rows.specs.Row.{deeds, keys, lines}
 use Rattle.byte_rows.specs.Served.{Opens, Ready}
@@ -16,14 +15,10 @@ use Rattle.byte_rows.specs.System.{Basis, Call, answered, brings, closes, hands,
 use Rattle.contents.specs.Field.{part}
 use Rattle.contents.specs.Inside.{write_asking, write_letter, write_login, write_ticket}
 use Rattle.house_rules.specs.Account.{closed}
-use Rattle.locked.specs.Locked.{Bytes, Locks, asked_of}
+use Rattle.locked.specs.Locked.{Bytes, Locks}
 use Rattle.parts.specs.declared.fault.Fault.TheVariants.{DoneBefore}
-use Rattle.parts.specs.declared.word.Asking.{Asking}
 use Rattle.parts.specs.declared.word.Key.{Key}
-use Rattle.parts.specs.declared.word.Letter.{Letter}
-use Rattle.parts.specs.declared.word.Login.{Login}
 use Rattle.parts.specs.declared.word.Number.{Number}
-use Rattle.parts.specs.declared.word.Ticket.{Ticket}
 use Rattle.parts.specs.declared.word.What.{What}
 use Rattle.rows.specs.Row.{Deed, Given, Wanted}
 use Rattle.rows.specs.System.{House, Reader, Service}

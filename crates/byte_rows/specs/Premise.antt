@@ -18,10 +18,10 @@
 -- That a lock that was made stands for what was locked, that words and insides read back as they were written, and that what is written fits
 -- its field are proved, not assumed. Words that spell a secret key or number, asked for by a reader, are outside of this: what is asked counts
 -- as what anybody can write. That two digests never meet is not assumed: where they do, an asking is refused that need not be.
-use Rattle.std.specs.Prelude.{◌≡◌, ℕ, ◌+◌, ◌^◌, ◌<◌, ◌≤◌, ◌⊎◌, List, [], ◌∷◌, map, length, take, Some, Ok, Err, Option, Result}
+use Rattle.std.specs.Prelude.{◌≡◌, ℕ, ◌^◌, ◌<◌, ◌≤◌, ◌⊎◌, List, [], ◌∷◌, map, length, take, Some, Ok, Err, Result}
 use Rattle.box_rules.specs.Chest.{Boxed}
 use Rattle.box_rules.specs.Keys.{letter_keys}
-use Rattle.byte_rows.specs.System.{Basis, Bytewise, Call, Made, brings, closes, crashes, device, hands, key_name, lock_of, opens, read_by_house, run, steals, tells, wants}
+use Rattle.byte_rows.specs.System.{Basis, Bytewise, Call, Made, brings, closes, crashes, device, hands, key_name, opens, read_by_house, run, steals, tells, wants}
 use Rattle.byte_rows.specs.Term.{Whole, air_of, inside_term, name_in, word_term}
 use Rattle.contents.specs.Field.{Bytes as Octets}
 use Rattle.house_rules.specs.Account.{own_key}
@@ -34,7 +34,7 @@ use Rattle.parts.specs.declared.word.Login.{Login}
 use Rattle.parts.specs.declared.word.Ticket.{Ticket}
 use Rattle.rows.specs.Name.{Apart, own_of}
 use Rattle.rows.specs.Setting.{Writing}
-use Rattle.rows.specs.System.{House, Reader, Service, Who}
+use Rattle.rows.specs.System.{House, Reader, Service}
 use Rattle.tickets.specs.Term.{Gets}
 use Rattle.wire.specs.Word.{Frame, framed}
 use Rattle.wire.specs.Word as frame

@@ -12,7 +12,7 @@ use Rattle.byte_rows.specs.System as system
 use Rattle.byte_rows.specs.Term.{Whole, air_of, name_in}
 use Rattle.house_rules.specs.Account.{closed}
 use Rattle.house_side.specs.House as house
-use Rattle.locked.specs.Locked.{Bytes, Locks, ours}
+use Rattle.locked.specs.Locked.{Locks, ours}
 use Rattle.rows.proofs.Names.{name-apart, own-named}
 use Rattle.rows.specs.Name.{Naming, name_of}
 use Rattle.rows.specs.Row.{Accounted, Begun, Deed, Given, Taken, Wanted, begun_told, deed_told, key_told, line_told, taken_told}

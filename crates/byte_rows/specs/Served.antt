@@ -1,30 +1,29 @@
 -- Served over bytes: from every state of every row that meets the premises, six named calls, the line and each word as it was sent, end with
 -- a new deed of this line. The proof is in proofs/ServedRow.antt. Assumes nothing.
 --
--- Opens l               what was locked opens again; proved of this code's own locks
+-- Opens l                 what was locked opens again; proved of this code's own locks
 -- login_word .. ask_word  the five words, by the drawn bytes that are left; done_word: the receipt
--- six_calls              the six calls by which reader a is served by v with words w, in system s
--- Ready                 what the six calls need
--- Served                in every row that meets the premises, whoever is ready is served, at the same tick
+-- six_calls               the six calls by which reader a is served by v with words w, in system s
+-- Ready                   what the six calls need
+-- Served                  in every row that meets the premises, whoever is ready is served, at the same tick
 use Rattle.std.specs.Prelude.{◌≡◌, ℕ, ◌+◌, ◌-◌, ◌^◌, ◌<◌, ◌≤◌, false, List, [], ◌∷◌, ◌++◌, length, drop, Some, None}
-use Rattle.box_rules.specs.Chest.{Boxed, asking_of, two_bytes}
+use Rattle.box_rules.specs.Chest.{Boxed, two_bytes}
 use Rattle.box_rules.specs.Keys.{letter_keys}
 use Rattle.box_rules.specs.Letter.{taken_after}
 use Rattle.box_rules.specs.Line.{line_of, login_of, wanted_after}
 use Rattle.box_rules.specs.declared.line.Line.{Line}
 use Rattle.box_rules.specs.declared.line.Under.TheVariants.{Own as OwnKey}
-use Rattle.byte_rows.specs.Premise.{Alone, Fair, Row}
+use Rattle.byte_rows.specs.Premise.{Fair, Row}
 use Rattle.byte_rows.specs.Row.{deeds, lines}
 use Rattle.byte_rows.specs.System.{Basis, Bytewise, Call, brings, run, wants}
 use Rattle.house_rules.specs.Account.{closed, own_key, unknown}
-use Rattle.house_rules.specs.House.{Home, until_of}
+use Rattle.house_rules.specs.House.{until_of}
 use Rattle.locked.specs.Locked.{Bytes, Locks, asking_lock, digest_of, letter_lock, login_lock, ours, receipt_lock, ticket_lock}
 use Rattle.parts.specs.Drawn.{key_of, number_of, salt_of}
 use Rattle.parts.specs.declared.lock.Lock.{Lock}
 use Rattle.parts.specs.declared.word.Asking.{Asking}
 use Rattle.parts.specs.declared.word.Key.{Key}
 use Rattle.parts.specs.declared.word.Letter.{Letter}
-use Rattle.parts.specs.declared.word.Login.{Login}
 use Rattle.parts.specs.declared.word.Ticket.{Ticket}
 use Rattle.parts.specs.declared.word.What.{What}
 use Rattle.rows.specs.Name.{draw_name, own_name}

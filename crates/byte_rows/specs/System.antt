@@ -5,8 +5,8 @@
 -- Bytewise      one house, any services, any boxes whose tickets are bytes; all words sent, all draws and locks made, the newest first
 -- Call          what happens: a reader's line, a word of whatever bytes brought to a side, a tick, an account, a theft, ..
 -- step          what a call leaves
--- key_name       the name of the own key of a number, one for all who have it by a slip
-use Rattle.std.specs.Prelude.{ℕ, suc, Bool, true, false, List, [], ◌∷◌, ◌++◌, replicate, Some, None, Option}
+-- key_name      the name of the own key of a number, one for all who have it by a slip
+use Rattle.std.specs.Prelude.{ℕ, Bool, true, false, List, [], ◌∷◌, ◌++◌, replicate, Some, None, Option}
 use Rattle.box_rules.specs.Chest.{Boxed, box_on_tick, fresh}
 use Rattle.box_rules.specs.Line.{wanted, wanted_after}
 use Rattle.box_rules.specs.declared.answer.Answer as Told

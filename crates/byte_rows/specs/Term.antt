@@ -2,17 +2,16 @@
 --
 -- Content          what stands in a lock, read; read_as: by its kind
 -- Whole            all draws and all locks of a whole run; name_in: what key or number some bytes are
--- lock_term         the first lock made with these bytes, as a term; bytes that nobody made are what anybody can write
--- word_term         a word is the pair of its pieces; what can't be framed is what anybody can write
--- air_of s          all that was sent and stolen so far
-use Rattle.std.specs.Prelude.{ℕ, cond, List, [], ◌∷◌, ◌++◌, map, Some, None, Ok, Err, Option, Result, ◌==◌}
+-- lock_term        the first lock made with these bytes, as a term; bytes that nobody made are what anybody can write
+-- word_term        a word is the pair of its pieces; what can't be framed is what anybody can write
+-- air_of s         all that was sent and stolen so far
+use Rattle.std.specs.Prelude.{ℕ, cond, List, [], ◌∷◌, ◌++◌, map, Ok, Err, Result, ◌==◌}
 use Rattle.byte_rows.specs.System.{Basis, Bytewise, Made, lock_of}
 use Rattle.contents.specs.Inside.{read_asking, read_letter, read_login, read_receipt, read_ticket}
 use Rattle.locked.specs.Locked.{Bytes, Locks, asking_ok}
 use Rattle.parts.specs.Fault.{class_number}
 use Rattle.parts.specs.declared.fault.Fault.{Fault}
 use Rattle.parts.specs.declared.word.Asking.{Asking}
-use Rattle.parts.specs.declared.word.Key.{Key}
 use Rattle.parts.specs.declared.word.Letter.{Letter}
 use Rattle.parts.specs.declared.word.Login.{Login}
 use Rattle.parts.specs.declared.word.Receipt.{Receipt}
