@@ -1,12 +1,12 @@
 -- What stands in a lock, as a value: tickets, letters, askings, logins and receipts locked and opened. Assumes nothing.
 --
--- Locks                 a way to lock and to open bytes, and to take the digest of a key and a number
--- ours                  the way of this code: the locks of the crate seal
--- opened_as read o       what an opened inside reads as: 3 where the lock did not open, 4 where it can't be read
+-- Locks                   a way to lock and to open bytes, and to take the digest of a key and a number
+-- ours                    the way of this code: the locks of the crate seal
+-- opened_as read o        what an opened inside reads as: 3 where the lock did not open, 4 where it can't be read
 -- ticket_in .. receipt_in what a lock has inside, by a key
--- ticket_lock ..         the bytes of a lock that is made
--- refusal_word f         the word of a refusal
--- words_in w             the words of an asking; what_in bs the same, as a value of fixed size
+-- ticket_lock ..          the bytes of a lock that is made
+-- refusal_word f          the word of a refusal
+-- words_in w              the words of an asking; what_in bs the same, as a value of fixed size
 use Rattle.std.specs.Prelude.{ℕ, ◌-◌, List, ◌++◌, length, take, replicate, Some, None, Ok, Err, Option, Result}
 use Rattle.contents.specs.Inside.{Asked, read_asking, read_login, read_ticket, write_asking, write_letter, write_login, write_receipt, write_ticket}
 use Rattle.parts.specs.Fault.{class_of}
