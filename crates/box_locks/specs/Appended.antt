@@ -1,7 +1,7 @@
 -- A lock put behind what a word has so far, its length before it. Assumes nothing.
 --
--- appended lock r out     what out then is: one lock longer, or as it was where there was no memory
--- login_most, asking_most   the most bytes that are appended for a login and for an asking
+-- appended lock r out      what out then is: one lock longer, or as it was where there was no memory
+-- login_most, asking_most  the most bytes that are appended for a login and for an asking
 use Rattle.std.specs.Prelude.{ℕ, cond, ◌++◌, is_ok, Result}
 use Rattle.locked.specs.Locked.{Bytes}
 use Rattle.wire.specs.Word.{lock_bytes}

@@ -1,8 +1,8 @@
 -- What is promised of a word that the house heard. Assumes nothing.
 --
 -- ReadAs x r        what the code read, r, is what the word is, x; or there was no memory
--- event_of x a       what stands in the book of an answer a to what was read: a login, a grant or the fault, and no key
--- word_of s          the bytes of what is sent
+-- event_of x a      what stands in the book of an answer a to what was read: a login, a grant or the fault, and no key
+-- word_of s         the bytes of what is sent
 -- Tells l e a h     h notes the event e, and sends the answer a
 -- Hears l h w r h'  the house h heard w: what it noted and sent, and what it is then
 -- ticked h to       the house h that was told a tick

@@ -1,7 +1,7 @@
 -- What the house makes of a word of bytes: it is framed, its locks are opened, it is decided, and the answer is locked. Assumes nothing.
 --
--- Read                what a word is to the house: a login, a ticket and an asking, or what is wrong
--- read_at_house l h w   the word w, at the house h
+-- Read                 what a word is to the house: a login, a ticket and an asking, or what is wrong
+-- read_at_house l h w  the word w, at the house h
 -- answer_to l h r      what the house answers to it, by its decision; after_word: what it is then
 -- sent_by l a          the bytes that go out with an answer
 use Rattle.std.specs.Prelude.{ℕ, cond, Some, Ok, Err, Option, Result}

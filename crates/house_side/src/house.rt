@@ -30,11 +30,11 @@ impl<A: Accounts, M: Memory, D: Drawn> House<A, M, D> {
     // Decides on a login that was read.
     fn log_in(&mut self, reader: u16, login: Login) -> Reply
         ensures answer { result ≡ answer_to ours
-            (home self.old.house (listed self.old.accounts) (kept self.old.memory) (junk self.old.memory) (M.Memory.writes self.new.memory) (left self.old.drawn))
+            (home self.old.house (A.listed self.old.accounts) (M.kept self.old.memory) (M.junk self.old.memory) (M.Memory.writes self.new.memory) (D.left self.old.drawn))
             (logs reader login) }
-        ensures after { (home self.new.house (listed self.new.accounts) (kept self.new.memory) (junk self.new.memory) (M.Memory.writes self.new.memory) (left self.new.drawn))
+        ensures after { (home self.new.house (A.listed self.new.accounts) (M.kept self.new.memory) (M.junk self.new.memory) (M.Memory.writes self.new.memory) (D.left self.new.drawn))
             ≡ after_word ours
-            (home self.old.house (listed self.old.accounts) (kept self.old.memory) (junk self.old.memory) (M.Memory.writes self.new.memory) (left self.old.drawn))
+            (home self.old.house (A.listed self.old.accounts) (M.kept self.old.memory) (M.junk self.old.memory) (M.Memory.writes self.new.memory) (D.left self.old.drawn))
             (logs reader login) }
         ensures accounts { self.new.accounts ≡ self.old.accounts }
         ensures memory { self.new.memory ≡ self.old.memory }
@@ -46,11 +46,11 @@ impl<A: Accounts, M: Memory, D: Drawn> House<A, M, D> {
     // Decides on a ticket and an asking that were read.
     fn ask(&mut self, ticket: Ticket, asking: Asking) -> Reply
         ensures answer { result ≡ answer_to ours
-            (home self.old.house (listed self.old.accounts) (kept self.old.memory) (junk self.old.memory) (M.Memory.writes self.new.memory) (left self.old.drawn))
+            (home self.old.house (A.listed self.old.accounts) (M.kept self.old.memory) (M.junk self.old.memory) (M.Memory.writes self.new.memory) (D.left self.old.drawn))
             (asks ticket asking) }
-        ensures after { (home self.new.house (listed self.new.accounts) (kept self.new.memory) (junk self.new.memory) (M.Memory.writes self.new.memory) (left self.new.drawn))
+        ensures after { (home self.new.house (A.listed self.new.accounts) (M.kept self.new.memory) (M.junk self.new.memory) (M.Memory.writes self.new.memory) (D.left self.new.drawn))
             ≡ after_word ours
-            (home self.old.house (listed self.old.accounts) (kept self.old.memory) (junk self.old.memory) (M.Memory.writes self.new.memory) (left self.old.drawn))
+            (home self.old.house (A.listed self.old.accounts) (M.kept self.old.memory) (M.junk self.old.memory) (M.Memory.writes self.new.memory) (D.left self.old.drawn))
             (asks ticket asking) }
         ensures accounts { self.new.accounts ≡ self.old.accounts }
         ensures keeps { M.Memory.keeps self.old.memory self.new.memory }
@@ -79,8 +79,8 @@ impl<A: Accounts, M: Memory, D: Drawn> House<A, M, D> {
 
     // Opens an account with an own key.
     pub fn open(&mut self, number: u16, key: Key) -> Changed
-        ensures answer { result ≡ opened (listed self.old.accounts) number (A.Accounts.writes self.new.accounts) }
-        ensures after { listed self.new.accounts ≡ opened_after (listed self.old.accounts) number key (A.Accounts.writes self.new.accounts) }
+        ensures answer { result ≡ opened (A.listed self.old.accounts) number (A.Accounts.writes self.new.accounts) }
+        ensures after { A.listed self.new.accounts ≡ opened_after (A.listed self.old.accounts) number key (A.Accounts.writes self.new.accounts) }
         ensures keeps { A.Accounts.keeps self.old.accounts self.new.accounts }
         ensures house { self.new.house ≡ self.old.house }
         ensures rest { (self.new.memory ≡ self.old.memory) × (self.new.drawn ≡ self.old.drawn) }
@@ -90,8 +90,8 @@ impl<A: Accounts, M: Memory, D: Drawn> House<A, M, D> {
 
     // Closes an account for good.
     pub fn close(&mut self, number: u16) -> Changed
-        ensures answer { result ≡ shut (listed self.old.accounts) number (A.Accounts.writes self.new.accounts) }
-        ensures after { listed self.new.accounts ≡ shut_after (listed self.old.accounts) number (A.Accounts.writes self.new.accounts) }
+        ensures answer { result ≡ shut (A.listed self.old.accounts) number (A.Accounts.writes self.new.accounts) }
+        ensures after { A.listed self.new.accounts ≡ shut_after (A.listed self.old.accounts) number (A.Accounts.writes self.new.accounts) }
         ensures keeps { A.Accounts.keeps self.old.accounts self.new.accounts }
         ensures house { self.new.house ≡ self.old.house }
         ensures rest { (self.new.memory ≡ self.old.memory) × (self.new.drawn ≡ self.old.drawn) }
@@ -103,9 +103,9 @@ impl<A: Accounts, M: Memory, D: Drawn> House<A, M, D> {
     // all is as it was.
     pub fn hear(&mut self, heap: Global, word: &[u8]) -> Result<Heard, AllocError>
         ensures hears { Hears ours
-            (home self.old.house (listed self.old.accounts) (kept self.old.memory) (junk self.old.memory) (M.Memory.writes self.new.memory) (left self.old.drawn))
+            (home self.old.house (A.listed self.old.accounts) (M.kept self.old.memory) (M.junk self.old.memory) (M.Memory.writes self.new.memory) (D.left self.old.drawn))
             word.now result
-            (home self.new.house (listed self.new.accounts) (kept self.new.memory) (junk self.new.memory) (M.Memory.writes self.new.memory) (left self.new.drawn)) }
+            (home self.new.house (A.listed self.new.accounts) (M.kept self.new.memory) (M.junk self.new.memory) (M.Memory.writes self.new.memory) (D.left self.new.drawn)) }
         ensures accounts { self.new.accounts ≡ self.old.accounts }
         ensures keeps { M.Memory.keeps self.old.memory self.new.memory }
         ensures same { is_err result ≡ true → self.new ≡ self.old }

@@ -36,7 +36,7 @@ fn read_login<A: Accounts>(
     reader: u16,
     lock: &[u8],
 ) -> Result<Reading, Unopened>
-    ensures { (es : List Entry) (j w : Bool) (bs : List ℕ) → ReadAs (read_login ours (home house.now (listed accounts.now) es j w bs) reader lock.now) result }
+    ensures { (es : List Entry) (j w : Bool) (bs : List ℕ) → ReadAs (read_login ours (home house.now (A.listed accounts.now) es j w bs) reader lock.now) result }
 {
     if is_unknown(accounts, reader) {
         return Err(Unopened::Wrong(Fault::Unknown));
@@ -52,7 +52,7 @@ pub(crate) fn read<A: Accounts>(
     accounts: &A,
     word: &[u8],
 ) -> Result<Reading, Unopened>
-    ensures { (es : List Entry) (j w : Bool) (bs : List ℕ) → ReadAs (read_at_house ours (home house.now (listed accounts.now) es j w bs) word.now) result }
+    ensures { (es : List Entry) (j w : Bool) (bs : List ℕ) → ReadAs (read_at_house ours (home house.now (A.listed accounts.now) es j w bs) word.now) result }
 {
     match read_word(word) {
         Ok(Word::Login { reader, lock }) => read_login(heap, house, accounts, reader, lock),

@@ -1,4 +1,4 @@
-use Rattle.std.proofs.Common.{◌≡◌, ℕ, ◌+◌, ◌-◌, List, length, take, ap, ◌∙◌, arith}
+use Rattle.std.proofs.Common.{◌≡◌, ℕ, ◌+◌, ◌-◌, List, take, ap, ◌∙◌, arith}
 use Rattle.box_locks.proofs.append.asking_into.Goals as goal
 use Rattle.seal.specs.Lock.{lock}
 use Rattle.std.proofs.lemmas.List.{take_at}

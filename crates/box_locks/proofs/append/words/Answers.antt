@@ -1,6 +1,6 @@
 use Rattle.box_locks.proofs.append.words.Goals as goal
 use Rattle.std.proofs.lemmas.List.{take_all}
-use Rattle.std.proofs.Common.{sym, arith, rules}
+use Rattle.std.proofs.Common.{sym, arith}
 
 pub returns-then-len-gt1024 : goal.returns-then-len-gt1024
 returns-then-len-gt1024 c = record {

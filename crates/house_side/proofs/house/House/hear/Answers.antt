@@ -3,7 +3,7 @@ use Rattle.house_side.proofs.Words.{heard-as, told-login}
 use Rattle.house_side.proofs.house.House.hear.Goals as goal
 use Rattle.house_side.specs.House.{logs, read_at_house, wrong}
 use Rattle.locked.specs.Locked.{ours}
-use Rattle.std.proofs.Common.{◌≡◌, true, false, sym, refl, subst, rules}
+use Rattle.std.proofs.Common.{◌≡◌, sym, refl, subst, rules}
 
 pub returns-in-Ok-Login : goal.returns-in-Ok-Login
 returns-in-Ok-Login g c =
@@ -22,7 +22,7 @@ returns-in-Ok-Login g c =
     let e : read_at_house ours h c.args.word.now ≡ logs reader login = search rules in
     let k = c.log_in.ensures in
     record {
-      hears = heard-as ours h c.args.word.now (logs reader login) c.told-login.result h' e (told-login ours h reader login c.log_in.result c.told-login.result k.answer c.told-login.ensures) k.after;
+      hears = heard-as ours h c.args.word.now (logs reader login) c.told_login.result h' e (told-login ours h reader login c.log_in.result c.told_login.result k.answer c.told_login.ensures) k.after;
       accounts = k.accounts;
       keeps = subst (m.keeps s.memory) (sym k.memory) (g.met.M.Memory.same s.memory);
       same = search rules;
