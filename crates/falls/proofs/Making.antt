@@ -1,13 +1,13 @@
 -- What a new device is once it was made. Assumes nothing.
-use Rattle.std.proofs.Common.{◌≡◌, ℕ, ◌+◌, ◌-◌, ◌≤◌, Bool, true, false, cond, ◌&&◌, ◌||◌, eqb, ltb, leb, List, [], length, drop, Some, None, Option, sym, refl, ap, ◌∙◌, arith}
+use Rattle.std.proofs.Common.{◌≡◌, ℕ, ◌-◌, Bool, true, false, cond, ◌&&◌, ◌||◌, eqb, ltb, leb, List, [], length, drop, Some, None, sym, refl, ap, ◌∙◌, arith}
 use Rattle.entries.specs.Bytes.{entries_of, measured_of, unpacked}
 use Rattle.falls.proofs.Reading.{steady}
 use Rattle.falls.specs.Falls.{Left}
 use Rattle.halves.proofs.Written.{decoded-after, part-after}
-use Rattle.halves.specs.Blocks.{Blocks, Writes, block, over, put}
+use Rattle.halves.specs.Blocks.{Blocks, Writes, over}
 use Rattle.halves.specs.Half.{Measure, blank, decoded, half, is_zero, payload_in, sized}
-use Rattle.halves.specs.Halves.{full, is_new, known_of, makes, payload_of, whether}
-use Rattle.halves.specs.Laws.{Cut, Junk, Knows, New, Old}
+use Rattle.halves.specs.Halves.{full, known_of, makes, payload_of, whether}
+use Rattle.halves.specs.Laws.{Junk, Knows, New, Old}
 use Rattle.halves.specs.declared.half.Half.{Half}
 use Rattle.halves.specs.declared.which.Which.TheVariants.{First, Second}
 use Rattle.replay.specs.Replay.{nothing}

@@ -1,13 +1,13 @@
 -- Entries in bytes are read back. Assumes nothing.
-use Rattle.std.proofs.Common.{◌≡◌, ℕ, zero, suc, ◌+◌, ◌*◌, ◌^◌, ◌<◌, ◌≤◌, Bool, true, false, cond, ltb, leb, List, [], ◌∷◌, ◌++◌, length, get_or, take, drop, Some, None, Option, sym, refl, ap, ◌∙◌, arith}
+use Rattle.std.proofs.Common.{◌≡◌, ℕ, zero, suc, ◌+◌, ◌*◌, ◌<◌, ◌≤◌, Bool, true, false, cond, ltb, leb, List, [], ◌∷◌, ◌++◌, length, get_or, take, drop, Some, None, sym, refl, ap, ◌∙◌, arith}
 use Rattle.codec.proofs.Numbers.{length-bytes_of, number-bytes_of}
 use Rattle.contents.specs.Field.{bytes_of, number, part}
-use Rattle.entries.proofs.Packing.{length-count_bytes, length-entry_bytes, length-packed, entries_of-more}
+use Rattle.entries.proofs.Packing.{length-count_bytes, length-entry_bytes, length-packed}
 use Rattle.entries.specs.Bytes.{Fits, count_bytes, count_in, entries_of, entry_at, entry_bytes, is_whole, measured_of, packed, unpacked}
 use Rattle.halves.specs.Half.{Steady}
 use Rattle.parts.specs.declared.account.Entry.{Entry}
 use Rattle.std.proofs.ByRecursion.{All-get_or}
-use Rattle.std.proofs.lemmas.List.{append_assoc, drop_at, drop-drop, length-append, take_all, take-append-le, take_at, take_more, take-take, drop-take}
+use Rattle.std.proofs.lemmas.List.{append_assoc, drop_at, drop-drop, length-append, take_all, take-append-le, take_at, take_more}
 use Rattle.std.proofs.lemmas.Bool.{and_from, le-leb, le-ltb, ltb-false}
 use Rattle.std.specs.List.{flat_map, AllByRecursion as All}
 

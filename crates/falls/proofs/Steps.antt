@@ -1,24 +1,24 @@
 -- What holds after each step. Assumes nothing.
-use Rattle.std.proofs.Common.{◌≡◌, ℕ, ◌+◌, ◌<◌, ◌≤◌, Bool, true, false, cond, ltb, ◌⊎◌, List, [], ◌∷◌, length, is_some, Some, None, Option, sym, refl, ap, ◌∙◌, subst, inl, inr, arith}
+use Rattle.std.proofs.Common.{◌≡◌, ℕ, ◌+◌, ◌<◌, ◌≤◌, Bool, true, false, cond, ◌⊎◌, List, [], ◌∷◌, length, is_some, Some, None, Option, sym, refl, ap, ◌∙◌, subst, inl, inr, arith}
 use Rattle.entries.specs.Bytes.{Fits, measured_of, packed, unpacked}
 use Rattle.falls.proofs.Among.{in-last, in-live, in-recorded, in-stands, live-before, live-from-lately, live-le}
 use Rattle.falls.proofs.Making.{make-so, new-junk}
 use Rattle.falls.proofs.Reading.{fitting, steady, unpacked-packed}
-use Rattle.falls.specs.Falls.{Falls, In, Left, LeftAt, LeftMaking, Records, Remembered, Run, Starting, State, Ticks, did, did-not, fell, first, ticked}
+use Rattle.falls.specs.Falls.{In, Left, LeftAt, LeftMaking, Remembered, Run, Starting, State, did, did-not, fell, first, ticked}
 use Rattle.halves.proofs.Finding.{failing, starting, telling, writing}
-use Rattle.halves.specs.Blocks.{Blocks, Writes, block, other, put}
-use Rattle.halves.specs.Half.{decoded, half, payload_in}
-use Rattle.halves.specs.Halves.{Makes, Starts, known_of, makes, next_of, payload_of, standing, wrote}
+use Rattle.halves.specs.Blocks.{Blocks, block, other, put}
+use Rattle.halves.specs.Half.{decoded, half}
+use Rattle.halves.specs.Halves.{Starts, known_of, makes, next_of, payload_of, standing, wrote}
 use Rattle.halves.specs.Laws.{Cut, Junk, Junks, Knows, KnowsAt, New, Old, cut_by, found}
 use Rattle.halves.specs.declared.half.Half.{Half}
 use Rattle.halves.specs.declared.halves.Good.{Good}
 use Rattle.halves.specs.declared.halves.Halves.{Halves}
 use Rattle.halves.specs.declared.which.Which.{Which}
 use Rattle.halves.specs.declared.which.Which.TheVariants.{First, Second}
-use Rattle.parts.specs.Tick.{lately, live}
+use Rattle.parts.specs.Tick.{live}
 use Rattle.parts.specs.declared.account.Entry.{Entry}
-use Rattle.replay.specs.Replay.{Begun, Told, nothing}
-use Rattle.service_rules.specs.Memory.{live_of, recorded, stands}
+use Rattle.replay.specs.Replay.{Told, nothing}
+use Rattle.service_rules.specs.Memory.{live_of, recorded}
 use Rattle.std.proofs.lemmas.List.{length_push}
 use Rattle.std.specs.List.{AllByRecursion as All}
 

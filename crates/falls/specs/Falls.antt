@@ -10,7 +10,7 @@ use Rattle.std.specs.Prelude.{◌≡◌, ℕ, ◌+◌, ◌<◌, ◌≤◌, Bool,
 use Rattle.entries.specs.Bytes.{Fits, measured_of, packed}
 use Rattle.halves.specs.Blocks.{Blocks}
 use Rattle.halves.specs.Half.{Measure, half, payload_in}
-use Rattle.halves.specs.Halves.{Makes, Starts, makes, next_of}
+use Rattle.halves.specs.Halves.{Starts, makes, next_of}
 use Rattle.halves.specs.Laws.{Cut, Junks, cut_by}
 use Rattle.halves.specs.declared.halves.Good.{Good}
 use Rattle.halves.specs.declared.halves.Halves.{Halves}

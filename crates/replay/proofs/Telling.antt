@@ -6,7 +6,7 @@ use Rattle.halves.specs.Halves.{Tried, next_of, target}
 use Rattle.halves.specs.declared.halves.Good.{Good}
 use Rattle.halves.specs.declared.halves.Halves.{Halves}
 use Rattle.replay.specs.Replay.{Told}
-use Rattle.std.proofs.lemmas.List.{drop_at, drop-take, length-append, length-take-le, take-append-drop, take_at, take-take}
+use Rattle.std.proofs.lemmas.List.{drop_at, drop-take, length-take-le, take-take}
 use Rattle.std.proofs.lemmas.Bool.{le-ltb}
 
 told_of : (o : Option Good) (h : Halves) (b : Blocks) (x p : List ℕ) (r : Bool) (h' : Halves) (b' : Blocks) (x' : List ℕ)

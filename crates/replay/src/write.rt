@@ -19,7 +19,7 @@ pub(crate) fn write_down<D: Device>(
     lag: u64,
 ) -> bool
     requires { (length digests.now ≡ length ticks.now) × ((length (live_of tick lag (beside digests.now ticks.now)) < 8192) × (196634 ≤ length half.old)) }
-    ensures { Recorded tick lag digest (beside digests.now ticks.now) halves.old (blocks device.old) result halves.new (blocks device.new) }
+    ensures { Recorded tick lag digest (beside digests.now ticks.now) halves.old (D.blocks device.old) result halves.new (D.blocks device.new) }
 {
     let end = compose(half, digests, ticks, digest, tick, lag);
     halves.write(device, &mut half[0..end + 16])

@@ -19,7 +19,7 @@ const HALF: usize = 196634;
 
 // The highest tick that a half remembers, if it is good.
 fn latest_in<D: Device>(device: &D, which: Which) -> u64
-    ensures { result ≡ latest_in (block which (blocks device.now)) }
+    ensures { result ≡ latest_in (block which (D.blocks device.now)) }
 {
     match decode(&Entries, device.read(which)) {
         Some(half) => highest_at(part(device.read(which), half.len)),
@@ -30,7 +30,7 @@ fn latest_in<D: Device>(device: &D, which: Which) -> u64
 impl<D: Device + Drop> ReplayMemory<D> {
     // Every start is a recovery: a device of zeros is new, and of any other the newest good half counts. Where there is no memory, the device is as it was.
     pub fn start(heap: Global, device: D) -> Result<ReplayMemory<D>, AllocError>
-        ensures { IfOk result (λ m. Begun (blocks device) m.halves (blocks m.device) (beside m.digests.items m.ticks.items) m.junk) }
+        ensures { IfOk result (λ m. Begun (D.blocks device) m.halves (D.blocks m.device) (beside m.digests.items m.ticks.items) m.junk) }
     {
         let mut digests = Vec::with_capacity(heap, ROOM)?;
         let mut ticks = Vec::with_capacity(heap, ROOM)?;
@@ -54,7 +54,7 @@ impl<D: Device + Drop> ReplayMemory<D> {
     // Writes down a thing that is to be done, with those that are not forgotten; only if it is written are the old ones forgotten and it is remembered.
     pub fn note(&mut self, digest: u128, tick: u64, lag: u64) -> bool
         requires { length (live_of tick lag (beside self.old.digests.items self.old.ticks.items)) < 8192 }
-        ensures notes { Notes tick lag digest (beside self.old.digests.items self.old.ticks.items) self.old.halves (blocks self.old.device) result (beside self.new.digests.items self.new.ticks.items) self.new.halves (blocks self.new.device) }
+        ensures notes { Notes tick lag digest (beside self.old.digests.items self.old.ticks.items) self.old.halves (D.blocks self.old.device) result (beside self.new.digests.items self.new.ticks.items) self.new.halves (D.blocks self.new.device) }
         ensures junk { self.new.junk ≡ (not result && self.old.junk) }
         ensures writes { self.new.writes ≡ result }
     {
@@ -78,7 +78,7 @@ impl<D: Device + Drop> ReplayMemory<D> {
 
     // The highest tick that either good half on the device remembers: a start at an earlier one is to be refused.
     pub fn latest(&self) -> u64
-        ensures { result ≡ latest (blocks self.now.device) }
+        ensures { result ≡ latest (D.blocks self.now.device) }
     {
         latest_in(&self.device, Which::First).max(latest_in(&self.device, Which::Second))
     }

@@ -2,7 +2,7 @@ use Rattle.entries.proofs.Side.{beside-push, entry, length-beside}
 use Rattle.entries.specs.Beside.{beside}
 use Rattle.parts.specs.declared.account.Entry.{Entry}
 use Rattle.replay.proofs.write.add.Goals as goal
-use Rattle.std.proofs.Common.{◌≡◌, ℕ, ◌<◌, List, [], ◌∷◌, ◌++◌, length, vec_items, vec_len, ap, ◌∙◌, arith}
+use Rattle.std.proofs.Common.{◌≡◌, ℕ, List, [], ◌∷◌, ◌++◌, length, vec_items, ap, ◌∙◌, arith}
 
 pub push_reserved-requires : goal.push_reserved-requires
 push_reserved-requires c =

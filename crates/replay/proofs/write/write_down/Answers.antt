@@ -5,7 +5,7 @@ use Rattle.entries.specs.Bytes.{packed}
 use Rattle.halves.specs.Halves.{Tried, target}
 use Rattle.service_rules.specs.Memory.{recorded}
 use Rattle.std.proofs.lemmas.List.{length-take-le}
-use Rattle.std.proofs.Common.{◌≡◌, ℕ, ◌+◌, ◌-◌, List, length, take, ap, ◌∙◌, subst, arith}
+use Rattle.std.proofs.Common.{◌≡◌, ℕ, ◌+◌, ◌-◌, take, subst, arith}
 
 pub returns : goal.returns
 returns g c =
