@@ -1,11 +1,11 @@
 -- What a reader's box makes of a word of bytes, and what it sends: tickets are bytes that it hands on unread. Assumes nothing.
 --
 -- opens_first l kind n ks w  the first of some keys that opens w, with its place from n on
--- Read                      what a word is to a box: a ticket and a letter, a receipt, a refusal, or what is wrong
--- read_at_box l b w           the word w, at the box b
+-- Read                       what a word is to a box: a ticket and a letter, a receipt, a refusal, or what is wrong
+-- read_at_box l b w          the word w, at the box b
 -- answer_to b r              what the box answers to it, by its decision; after_word: what it is then
 -- sent_by l b a              the bytes that go out with an answer of a box that is then b, and to whom
-use Rattle.std.specs.Prelude.{ℕ, suc, cond, List, [], ◌∷◌, Some, None, Ok, Err, Option, Result, ◌==◌}
+use Rattle.std.specs.Prelude.{ℕ, suc, cond, List, [], ◌∷◌, Some, None, Ok, Err, Option, ◌==◌}
 use Rattle.box_rules.specs.Chest.{Boxed, ticket_of}
 use Rattle.box_rules.specs.Keys.{letter_keys, receipt_keys}
 use Rattle.box_rules.specs.Letter.{confirmed, taken, taken_after}
@@ -23,7 +23,6 @@ use Rattle.parts.specs.declared.word.Asking.{Asking}
 use Rattle.parts.specs.declared.word.Key.{Key}
 use Rattle.parts.specs.declared.word.Letter.{Letter}
 use Rattle.parts.specs.declared.word.Receipt.{Receipt}
-use Rattle.std.specs.Option.{option_map}
 use Rattle.wire.specs.Word.{Frame, framed, write_word}
 use Rattle.wire.specs.Word as frame
 

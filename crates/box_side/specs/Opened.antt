@@ -1,8 +1,8 @@
 -- A lock that a box opened with the first key that opens it, and what was inside. Assumes nothing.
 --
 -- tried f w      the key that was found and its place, and the inside of the word w that stands open
--- found_in o w    that, if a key was found; opened_in o the same, with the word that the code holds
--- letter_in o     the letter inside, and whether it was the own key that opened it; receipt_in o the receipt, and its key
+-- found_in o w   that, if a key was found; opened_in o the same, with the word that the code holds
+-- letter_in o    the letter inside, and whether it was the own key that opened it; receipt_in o the receipt, and its key
 use Rattle.box_side.specs.Box.{under_of}
 use Rattle.box_side.specs.declared.open.Found.{Found}
 use Rattle.box_side.specs.declared.open.OpenLetter.{OpenLetter}

@@ -1,10 +1,10 @@
 -- A word that a box makes in two parts: what is known before the decision, and the lock that comes of it. Assumes nothing.
 --
--- front_of o             the part before: of an asking its kind and its ticket, of any other nothing
--- login_bytes n x        a login's word
--- sent_with n front a    the word that goes out with an answer, where the part before is that
+-- front_of o            the part before: of an asking its kind and its ticket, of any other nothing
+-- login_bytes n x       a login's word
+-- sent_with n front a   the word that goes out with an answer, where the part before is that
 -- Roomy front v         v has the part before, and room for the rest
--- ticket_by by hs        the ticket that a line names, if it names one that is held
+-- ticket_by by hs       the ticket that a line names, if it names one that is held
 use Rattle.std.specs.Prelude.{◌≡◌, ℕ, ◌+◌, ◌≤◌, List, [], ◌∷◌, ◌++◌, Some, None, vec_items, vec_len, vec_capacity, Option, Vec}
 use Rattle.box_rules.specs.Chest.{ticket_of}
 use Rattle.box_rules.specs.declared.answer.Answer.{Answer}

@@ -1,8 +1,8 @@
 -- What is promised of a step of a box over bytes: what it tells, what it sends, and what it is then. Assumes nothing.
 --
 -- seen c bs            a box of these tables with bs drawn bytes left, its tickets being their bytes
--- shown_of a            what an answer shows: all but its locks
--- sent_in o             a word that goes out, as its bytes
+-- shown_of a           what an answer shows: all but its locks
+-- sent_in o            a word that goes out, as its bytes
 -- Tells b a t          t is what a box that is then b tells and sends with the answer a
 -- Steps b a b₁ b' r    the answer is a and the box is then b₁, or there is no memory and the box is as it was
 -- Wanted, Heard        that of a line and of a word; Deals: by what the word was read as

@@ -1,8 +1,8 @@
 -- A box whose tickets are seen in another way: nothing that a box does looks into a ticket. Assumes nothing.
 --
--- held_by f h     a ticket held, seen through f
--- boxed_by f b    a box whose tickets are seen through f
-use Rattle.std.specs.Prelude.{ℕ, List, map}
+-- held_by f h    a ticket held, seen through f
+-- boxed_by f b   a box whose tickets are seen through f
+use Rattle.std.specs.Prelude.{map}
 use Rattle.box_rules.specs.Chest.{Boxed}
 use Rattle.box_rules.specs.declared.line.Held.{Held}
 

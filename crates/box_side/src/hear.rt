@@ -24,7 +24,7 @@ fn letter_at(
     chest: &Chest<TicketBytes>,
     lock: &[u8],
 ) -> Result<Result<OpenLetter, Fault>, AllocError>
-    ensures { IfOk result (λ x. (bs : List ℕ) → x ≡ letter_in (opens_first ours 2 0 (letter_keys (seen chest.now bs)) lock.now)) }
+    ensures { IfOk result (λ x. (bs : List ℕ) → x ≡ letter_in (opens_first ours 2 0 (letter_keys (seen chest.entry.now bs)) lock.now)) }
 {
     let keys = chest.letter_keys(heap)?;
     open_letter(heap, keys.as_slice(), lock)
@@ -36,7 +36,7 @@ fn receipt_at(
     chest: &Chest<TicketBytes>,
     lock: &[u8],
 ) -> Result<Result<OpenReceipt, Fault>, AllocError>
-    ensures { IfOk result (λ x. x ≡ receipt_in (opens_first ours 5 0 (receipt_keys chest.now.askings.items) lock.now)) }
+    ensures { IfOk result (λ x. x ≡ receipt_in (opens_first ours 5 0 (receipt_keys chest.entry.now.askings.items) lock.now)) }
 {
     let keys = chest.receipt_keys(heap)?;
     open_receipt(heap, keys.as_slice(), lock)
@@ -62,7 +62,7 @@ impl<D: Drawn> ReaderBox<D> {
         letter: Letter,
     ) -> (ReaderBox<D>, Result<Told, AllocError>)
         requires { (32 ≤ length ticket.now) × (length ticket.now ≤ 65535) }
-        ensures { Steps (seen self.chest (left self.drawn)) (taken (seen self.chest (left self.drawn)) under letter) (taken_after (seen self.chest (left self.drawn)) under letter ticket.now) (seen result.0.chest (left result.0.drawn)) result.1 }
+        ensures { Steps (seen self.chest (D.left self.drawn)) (taken (seen self.chest (D.left self.drawn)) under letter) (taken_after (seen self.chest (D.left self.drawn)) under letter ticket.now) (seen result.0.chest (D.left result.0.drawn)) result.1 }
     {
         match copies(heap, ticket) {
             Err(error) => (self, Err(error)),
@@ -83,7 +83,7 @@ impl<D: Drawn> ReaderBox<D> {
         letter: &[u8],
     ) -> (ReaderBox<D>, Result<Told, AllocError>)
         requires { (32 ≤ length ticket.now) × (length ticket.now ≤ 65535) }
-        ensures { Deals (seen self.chest (left self.drawn)) (letter_read ticket.now (opens_first ours 2 0 (letter_keys (seen self.chest (left self.drawn))) letter.now)) (seen result.0.chest (left result.0.drawn)) result.1 }
+        ensures { Deals (seen self.chest (D.left self.drawn)) (letter_read ticket.now (opens_first ours 2 0 (letter_keys (seen self.chest (D.left self.drawn))) letter.now)) (seen result.0.chest (D.left result.0.drawn)) result.1 }
     {
         match letter_at(heap, &self.chest, letter) {
             Err(error) => (self, Err(error)),
@@ -94,7 +94,7 @@ impl<D: Drawn> ReaderBox<D> {
 
     // A receipt.
     fn hear_receipt(self, heap: Global, lock: &[u8]) -> (ReaderBox<D>, Result<Told, AllocError>)
-        ensures { Deals (seen self.chest (left self.drawn)) (receipt_read (opens_first ours 5 0 (receipt_keys self.chest.askings.items) lock.now)) (seen result.0.chest (left result.0.drawn)) result.1 }
+        ensures { Deals (seen self.chest (D.left self.drawn)) (receipt_read (opens_first ours 5 0 (receipt_keys self.chest.askings.items) lock.now)) (seen result.0.chest (D.left result.0.drawn)) result.1 }
     {
         match receipt_at(heap, &self.chest, lock) {
             Err(error) => (self, Err(error)),
@@ -107,7 +107,7 @@ impl<D: Drawn> ReaderBox<D> {
     }
     // A word that came from the line. Where there is no memory the box is as it was.
     pub fn hear(self, heap: Global, word: &[u8]) -> (ReaderBox<D>, Result<Told, AllocError>)
-        ensures { Heard (seen self.chest (left self.drawn)) word.now (seen result.0.chest (left result.0.drawn)) result.1 }
+        ensures { Heard (seen self.chest (D.left self.drawn)) word.now (seen result.0.chest (D.left result.0.drawn)) result.1 }
     {
         match read_word(word) {
             Err(fault) => (self, Ok(tell_only(Answer::Wrong(fault)))),

@@ -32,7 +32,7 @@ impl<D: Drawn> ReaderBox<D> {
         key: Key,
         drawn: D,
     ) -> Result<ReaderBox<D>, NotMade<D>>
-        ensures { Starts left number tick key drawn result }
+        ensures { Starts D.left number tick key drawn result }
     {
         match Chest::start(heap, number, tick, key) {
             Ok(chest) => Ok(ReaderBox { chest, drawn }),
@@ -43,7 +43,7 @@ impl<D: Drawn> ReaderBox<D> {
     // Tells it the tick.
     pub fn tick(mut self, to: u64) -> (ReaderBox<D>, Ticked)
         ensures answer { result.1 ≡ clock self.chest.now to }
-        ensures after { seen result.0.chest (left result.0.drawn) ≡ box_on_tick (seen self.chest (left self.drawn)) to }
+        ensures after { seen result.0.chest (D.left result.0.drawn) ≡ box_on_tick (seen self.chest (D.left self.drawn)) to }
     {
         let ticked = self.chest.tick(to);
         (self, ticked)

@@ -14,7 +14,7 @@ use std::alloc::{AllocError, Global};
 
 // Memory for the word of a line by this ticket or by none, with a copy of the ticket in it.
 fn word_by(heap: Global, chest: &Chest<TicketBytes>, by: Option<u64>) -> Result<Vec<u8>, AllocError>
-    ensures { IfOk result (λ v. Roomy (front_of (option_map bytes_of (ticket_by by chest.now.tickets.items))) v) }
+    ensures { IfOk result (λ v. Roomy (front_of (option_map bytes_of (ticket_by by chest.entry.now.tickets.items))) v) }
 {
     let Some(id) = by else {
         return empty_word(heap);
@@ -35,7 +35,7 @@ impl<D: Drawn> ReaderBox<D> {
         by: Option<u64>,
         what: What,
     ) -> (ReaderBox<D>, Result<Told, AllocError>)
-        ensures { Wanted (seen self.chest (left self.drawn)) service by what (seen result.0.chest (left result.0.drawn)) result.1 }
+        ensures { Wanted (seen self.chest (D.left self.drawn)) service by what (seen result.0.chest (D.left result.0.drawn)) result.1 }
     {
         match word_by(heap, &self.chest, by) {
             Err(error) => (self, Err(error)),

@@ -10,7 +10,7 @@ hear_letter-requires g c =
     let l = c.in-Ok-TicketAndLetter.letter.now in
     let k = c.in-Ok-TicketAndLetter.ensures in
     let e : framed c.args.word.now ≡ Ok (ticket_and_letter t l) = cc in
-    ticket-fits c.args.word.now t l (λ i. (c.type-inv.word i).fits) e
+    ticket-fits c.args.word.now t l (λ i. (c.type_inv.word i).fits) e
 
 pub returns-in-Err : goal.returns-in-Err
 returns-in-Err g c =
