@@ -1,10 +1,10 @@
 -- Accounts in bytes are read back. Assumes nothing.
-use Rattle.std.proofs.Common.{◌≡◌, ℕ, zero, suc, ◌+◌, ◌-◌, ◌*◌, ◌<◌, ◌≤◌, Bool, true, false, cond, eqb, leb, ◌⊎◌, List, [], ◌∷◌, ◌++◌, length, get_or, take, drop, replicate, Some, sym, refl, ap, ◌∙◌, subst, inl, inr, arith}
+use Rattle.std.proofs.Common.{◌≡◌, ℕ, zero, suc, ◌+◌, ◌*◌, ◌<◌, ◌≤◌, Bool, true, false, cond, eqb, leb, ◌⊎◌, List, [], ◌∷◌, ◌++◌, length, get_or, take, drop, sym, refl, ap, ◌∙◌, subst, inl, inr, arith}
 use Rattle.account_laws.specs.Codec.{Back, ByValue, Full}
 use Rattle.accounts.specs.Bytes.{measure-is}
 use Rattle.accounts.specs.Entry.{Sized, account_in, entry, key_bytes, state_of, stated}
-use Rattle.accounts.specs.Payload.{account_at, accounts_in, low, measure, payload}
-use Rattle.house_rules.specs.Account.{account_of, key_in}
+use Rattle.accounts.specs.Payload.{account_at, accounts_in, low, payload}
+use Rattle.house_rules.specs.Account.{account_of}
 use Rattle.parts.specs.declared.account.Account.{Account}
 use Rattle.parts.specs.declared.account.Account.TheVariants.{Absent, Closed, Open}
 use Rattle.parts.specs.declared.word.Key.{Key}

@@ -1,28 +1,28 @@
 -- What lasts over changes and falls. Assumes nothing.
-use Rattle.std.proofs.Common.{◌≡◌, ℕ, zero, suc, ◌+◌, ◌-◌, ◌*◌, ◌^◌, ◌<◌, ◌≤◌, Bool, true, false, cond, not, ◌&&◌, eqb, ltb, leb, ◌⊎◌, List, length, get_or, drop, set, replicate, Some, None, Option, sym, refl, ap, ◌∙◌, subst, inl, inr, arith}
+use Rattle.std.proofs.Common.{◌≡◌, ℕ, ◌+◌, ◌-◌, ◌^◌, ◌<◌, ◌≤◌, Bool, true, false, cond, not, eqb, ltb, leb, ◌⊎◌, List, length, drop, set, replicate, Some, None, Option, sym, refl, ap, ◌∙◌, subst, inl, inr, arith}
 use Rattle.account_laws.proofs.Codec.{back}
-use Rattle.account_laws.proofs.Sound.{Finds, Sound, all_in_lem, finds-some, good-part, newest-stands, on-newest, rise-more, rise-same, risen-same}
-use Rattle.account_laws.proofs.Start.{SoundAt, read-sound, start-sound}
+use Rattle.account_laws.proofs.Sound.{Finds, Sound, all_in_lem, on-newest, rise-more, rise-same, risen-same}
+use Rattle.account_laws.proofs.Start.{SoundAt, start-sound}
 use Rattle.account_laws.specs.Codec.{Full}
 use Rattle.account_laws.specs.Falls.{Answered, Answering, Fair, Falling, Happening, Leaves, Rise, Risen, Rising, Run, Starting, Staying, calls, falls, rests}
 use Rattle.accounts.specs.Bytes.{steady}
-use Rattle.accounts.specs.Entry.{Sized, above, opens_with}
-use Rattle.accounts.specs.File.{Begins, Changes, Kept, State, Tries, accounts_on, all_in, begun, goes, holding, rises, state, whole}
+use Rattle.accounts.specs.Entry.{Sized, above}
+use Rattle.accounts.specs.File.{Begins, Kept, State, Tries, accounts_on, all_in, begun, goes, holding, rises, state, whole}
 use Rattle.accounts.specs.Payload.{accounts_in, measure, payload}
-use Rattle.halves.proofs.Finding.{failing, starting, writing}
+use Rattle.halves.proofs.Finding.{failing, writing}
 use Rattle.halves.proofs.Parts.{length-half}
-use Rattle.halves.specs.Blocks.{Blocks, Writes, block, other, over, put}
+use Rattle.halves.specs.Blocks.{Blocks, block, other, over, put}
 use Rattle.halves.specs.Half.{blank, decoded, half, is_zero, sized}
 use Rattle.halves.specs.Halves.{Starts, full, good_of, is_new, known_of, next_of, payload_of, standing, wrote, last_of, which_of}
-use Rattle.halves.specs.Laws.{Cut, Junk, Junks, KnowsAt, Knows, New, Old, cut_by, found}
+use Rattle.halves.specs.Laws.{Cut, Junk, Junks, KnowsAt, Knows, New, Old, cut_by}
 use Rattle.halves.specs.declared.half.Half.{Half}
 use Rattle.halves.specs.declared.halves.Good.{Good}
 use Rattle.halves.specs.declared.halves.Halves.{Halves}
 use Rattle.halves.specs.declared.which.Which.{Which}
 use Rattle.halves.specs.declared.which.Which.TheVariants.{First, Second}
-use Rattle.house_rules.specs.Account.{account_of, closed, is_absent, is_closed, key_in}
+use Rattle.house_rules.specs.Account.{account_of, closed, is_closed}
 use Rattle.house_rules.specs.Change.{changed, closed_of, shut, shut_after, shut_from, written}
-use Rattle.house_rules.specs.declared.change.Changed.TheVariants.{Done, Refused, Same}
+use Rattle.house_rules.specs.declared.change.Changed.TheVariants.{Refused}
 use Rattle.parts.specs.declared.account.Account.{Account}
 use Rattle.parts.specs.declared.account.Account.TheVariants.{Absent, Closed, Open}
 use Rattle.parts.specs.declared.fault.Fault.TheVariants.{Unknown}
@@ -30,8 +30,7 @@ use Rattle.parts.specs.declared.word.Key.{Key}
 use Rattle.service_rules.specs.Service.{nobody}
 use Rattle.std.proofs.lemmas.Slice.Eq.{bytes_eq-Decides}
 use Rattle.std.proofs.lemmas.List.{get_or_past, get_or-set_other, get_or-set_same, length-append, length-drop, length-set, set_past}
-use Rattle.std.proofs.lemmas.Bool.{and_from, and_left, and_parts, and_right, cases_eq, cases_lt, cond-true, eq-eqb, eqb-false, eqb-true, ltb-true, not-true, or_parts}
-use Rattle.std.specs.Str.{bytes_eq}
+use Rattle.std.proofs.lemmas.Bool.{and_from, and_left, and_parts, and_right, cases_eq, cases_lt, cond-true, eq-eqb, eqb-false, eqb-true, not-true, or_parts}
 
 abbrev the-key : List ℕ → Key
 the-key bs = record { 0 = bs }

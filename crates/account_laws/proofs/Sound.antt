@@ -1,13 +1,12 @@
 -- What holds of the accounts file at every moment. Assumes nothing.
-use Rattle.std.proofs.Common.{◌≡◌, ℕ, zero, suc, ◌+◌, ◌-◌, ◌*◌, ◌^◌, ◌<◌, ◌≤◌, Bool, true, false, cond, eqb, ltb, leb, List, [], length, take, drop, Some, None, Option, sym, refl, ap, ◌∙◌, subst, arith}
-use Rattle.account_laws.proofs.Codec.{full-in}
+use Rattle.std.proofs.Common.{◌≡◌, ℕ, ◌-◌, ◌≤◌, Bool, true, false, cond, eqb, leb, List, length, take, drop, Some, None, Option, refl, ap, ◌∙◌, subst, arith}
 use Rattle.account_laws.specs.Codec.{Full}
 use Rattle.account_laws.specs.Falls.{Rise, Risen}
 use Rattle.accounts.specs.Bytes.{measure-some}
 use Rattle.accounts.specs.File.{accounts_on, all_in, whole}
 use Rattle.accounts.specs.Payload.{accounts_in, measure}
 use Rattle.halves.proofs.Finding.{starting}
-use Rattle.halves.specs.Blocks.{Blocks, block, other}
+use Rattle.halves.specs.Blocks.{Blocks, block}
 use Rattle.halves.specs.Half.{blank, decoded, fits, sized}
 use Rattle.halves.specs.Halves.{good_of, known_of, newer_of, part_of, payload_of, standing}
 use Rattle.halves.specs.Laws.{KnowsAt}
@@ -20,7 +19,7 @@ use Rattle.house_rules.specs.Account.{account_of}
 use Rattle.parts.specs.declared.account.Account.{Account}
 use Rattle.parts.specs.declared.account.Account.TheVariants.{Absent, Closed, Open}
 use Rattle.std.proofs.lemmas.List.{length-drop, length-take-le}
-use Rattle.std.proofs.lemmas.Bool.{and_parts, cond-true, eq-eqb, eqb-true, leb-true}
+use Rattle.std.proofs.lemmas.Bool.{and_parts, cond-true, eq-eqb, leb-true}
 
 -- what a start would find: accounts that have risen from these
 pub record Finds (xs : List Account) (b : Blocks) : Type 0 where

@@ -1,27 +1,25 @@
 -- After a start. Assumes nothing.
-use Rattle.std.proofs.Common.{◌≡◌, ℕ, zero, suc, ◌+◌, ◌-◌, ◌*◌, ◌^◌, ◌<◌, ◌≤◌, Bool, true, false, cond, eqb, ltb, leb, ◌⊎◌, List, [], length, get_or, take, drop, replicate, Some, None, Option, sym, refl, ap, ◌∙◌, subst, inl, inr, arith}
+use Rattle.std.proofs.Common.{◌≡◌, ℕ, ◌+◌, ◌-◌, ◌*◌, ◌<◌, ◌≤◌, Bool, true, false, cond, eqb, ◌⊎◌, List, length, get_or, take, drop, replicate, Some, None, Option, sym, refl, ap, ◌∙◌, subst, inl, inr, arith}
 use Rattle.account_laws.proofs.Codec.{at_in, full-in, head_at, length-in, low-from}
-use Rattle.account_laws.proofs.Sound.{Finds, Sound, all_in_lem, finds-some, good-part, newest-stands, on-newest, rise-same}
-use Rattle.account_laws.specs.Codec.{Full}
+use Rattle.account_laws.proofs.Sound.{Sound, finds-some, newest-stands, on-newest, rise-same}
 use Rattle.account_laws.specs.Falls.{Rise, Risen}
 use Rattle.accounts.specs.Bytes.{measure-is, steady}
 use Rattle.accounts.specs.Entry.{account_in, key_bytes, stated}
-use Rattle.accounts.specs.File.{Begins, State, accounts_on, all_in, begun, holding, state, whole}
+use Rattle.accounts.specs.File.{Begins, State, all_in, begun, holding, state, whole}
 use Rattle.accounts.specs.Payload.{account_at, accounts_in, low, measure}
 use Rattle.halves.proofs.Written.{decoded-after, part-after}
-use Rattle.halves.specs.Blocks.{Blocks, Writes, block, other, over, put}
+use Rattle.halves.specs.Blocks.{Blocks, Writes, block, over}
 use Rattle.halves.specs.Half.{decoded, half, payload_in}
-use Rattle.halves.specs.Halves.{Makes, Starts, good_of, is_new, known_of, newer_of, part_of, payload_of, standing, whether}
-use Rattle.halves.specs.declared.half.Half.{Half}
+use Rattle.halves.specs.Halves.{Makes, Starts, is_new, known_of, part_of, payload_of, standing, whether}
 use Rattle.halves.specs.declared.halves.Good.{Good}
 use Rattle.halves.specs.declared.halves.Halves.{Halves}
 use Rattle.halves.specs.declared.which.Which.{Which}
 use Rattle.halves.specs.declared.which.Which.TheVariants.{First, Second}
 use Rattle.house_rules.specs.Account.{account_of}
 use Rattle.parts.specs.declared.account.Account.{Account}
-use Rattle.parts.specs.declared.account.Account.TheVariants.{Absent, Closed, Open}
-use Rattle.std.proofs.lemmas.List.{drop-replicate, get_or-drop, get_or_past, get_or-replicate, get_or-take, length-replicate, take-replicate}
-use Rattle.std.proofs.lemmas.Bool.{and_from, cases_lt, cond-true, eq-eqb, eqb-true, le-leb}
+use Rattle.parts.specs.declared.account.Account.TheVariants.{Absent}
+use Rattle.std.proofs.lemmas.List.{drop-replicate, get_or_past, get_or-replicate, length-replicate, take-replicate}
+use Rattle.std.proofs.lemmas.Bool.{cases_lt, eqb-true}
 
 -- what is held after a start was found in the newest good half
 pub record Held (h : Halves) (b : Blocks) (s : State) : Type 0 where

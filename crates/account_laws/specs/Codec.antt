@@ -3,7 +3,7 @@
 --   Back         what is written is a payload, and is read back
 --   ByValue      anything of full length with states of at most 2 is a payload, and is read entry by entry
 -- The proofs stand in proofs/Codec.antt.
-use Rattle.std.specs.Prelude.{◌≡◌, ℕ, ◌+◌, ◌*◌, ◌<◌, ◌≤◌, List, length, take, drop, Some, slice_index}
+use Rattle.std.specs.Prelude.{◌≡◌, ℕ, ◌*◌, ◌<◌, ◌≤◌, List, length, take, drop, Some, slice_index}
 use Rattle.accounts.specs.Entry.{Sized, account_in}
 use Rattle.accounts.specs.Payload.{accounts_in, measure, payload}
 use Rattle.house_rules.specs.Account.{account_of}

@@ -9,7 +9,7 @@
 --   Happening, Falling                     every outcome of a write, and a fall, can come: no promise is empty
 -- A call is an opening, a closing or any other change, with whatever answer; it is known by what is promised of it.
 -- A write that was cut is a call that was not answered, and then a fall. The proofs stand in proofs/Falls.antt.
-use Rattle.std.specs.Prelude.{◌≡◌, ℕ, Bool, true, false, ◌⊎◌, List, length, Some, None, Option, slice_set}
+use Rattle.std.specs.Prelude.{◌≡◌, ℕ, Bool, true, false, List, length, Some, None, Option, slice_set}
 use Rattle.accounts.specs.Entry.{Sized}
 use Rattle.accounts.specs.File.{Begins, Kept, State, goes}
 use Rattle.accounts.specs.Payload.{measure, payload}
@@ -23,7 +23,6 @@ use Rattle.house_rules.specs.declared.change.Changed.{Changed}
 use Rattle.house_rules.specs.declared.change.Changed.TheVariants.{Done, Refused, Same}
 use Rattle.parts.specs.declared.account.Account.{Account}
 use Rattle.parts.specs.declared.account.Account.TheVariants.{Absent, Closed, Open}
-use Rattle.parts.specs.declared.fault.Fault.{Fault}
 use Rattle.std.proofs.Common.{inl, inr}
 
 -- b is a, or what a became
