@@ -9,7 +9,7 @@ use Rattle.parts.specs.declared.account.Entry.{Entry}
 use Rattle.std.proofs.ByRecursion.{All-get_or}
 use Rattle.std.proofs.lemmas.List.{append_assoc, drop_at, drop-drop, length-append, take_all, take-append-le, take_at, take_more}
 use Rattle.std.proofs.lemmas.Bool.{and_from, le-leb, le-ltb, ltb-false}
-use Rattle.std.specs.List.{flat_map, AllByRecursion as All}
+use Rattle.std.specs.List.{flat_map, AllByRecursion}
 
 number-count : (n : ℕ) → n < 65536 → number (count_bytes n) ≡ n
 unfolding count_bytes
@@ -69,7 +69,7 @@ tick-of e rest f =
     ∙ ap number (take_at (bytes_of 8 e.tick) rest 8 (length-bytes_of 8 e.tick))
     ∙ number-bytes_of 8 e.tick f.1
 
-entry-back : (es : List Entry) (i : ℕ) (d : Entry) → i < length es → All Fits es → entry_at i (packed es) ≡ get_or es i d
+entry-back : (es : List Entry) (i : ℕ) (d : Entry) → i < length es → AllByRecursion Fits es → entry_at i (packed es) ≡ get_or es i d
 entry-back es i d h f =
     let c = count_bytes (length es) in
     let j = flat_map entry_bytes es in
@@ -86,7 +86,7 @@ entry-back es i d h f =
     same-entry : (a b x y : ℕ) → a ≡ x → b ≡ y → ◌≡◌ {A = Entry} record { digest = a; tick = b } record { digest = x; tick = y }
     same-entry a b x y p q = cc
 
-entries-back : (n : ℕ) (es : List Entry) → n ≤ length es → All Fits es → entries_of n (packed es) ≡ take n es
+entries-back : (n : ℕ) (es : List Entry) → n ≤ length es → AllByRecursion Fits es → entries_of n (packed es) ≡ take n es
 unfolding entries_of
 entries-back zero es h f = refl
 entries-back (suc n) es h f =
@@ -98,7 +98,7 @@ entries-back (suc n) es h f =
     ∙ ap (λ (x : ℕ). take x es) (sym k)
 
 -- what was packed is unpacked
-pub unpacked-packed : (es : List Entry) → length es ≤ 8192 → All Fits es → unpacked (packed es) ≡ es
+pub unpacked-packed : (es : List Entry) → length es ≤ 8192 → AllByRecursion Fits es → unpacked (packed es) ≡ es
 unpacked-packed es h f =
     ap (λ (n : ℕ). entries_of n (packed es)) (count-packed es h) ∙ entries-back (length es) es (omega arith) f ∙ take_all (length es) es (omega arith)
 

@@ -20,7 +20,7 @@ use Rattle.parts.specs.declared.account.Entry.{Entry}
 use Rattle.replay.specs.Replay.{Told, nothing}
 use Rattle.service_rules.specs.Memory.{live_of, recorded}
 use Rattle.std.proofs.lemmas.List.{length_push}
-use Rattle.std.specs.List.{AllByRecursion as All}
+use Rattle.std.specs.List.{AllByRecursion}
 
 -- what is known is so; what counts is what is remembered; what was done stands among it, or it waits and junk is told; a crash
 -- finds what is remembered, or junk
@@ -38,7 +38,7 @@ asleep now lag wake tick a l h = let k = live-le now lag tick l in absurd (omega
 
 -- a thing was recorded
 did_so : (lag d : ℕ) (done : List Entry) (s : State) (g : Good) → Inv lag done s → s.wake ≤ s.now
-    → length (live_of s.now lag s.kept) < 8192 → All Fits (recorded s.now lag d s.kept)
+    → length (live_of s.now lag s.kept) < 8192 → AllByRecursion Fits (recorded s.now lag d s.kept)
     → next_of s.halves (length (packed (recorded s.now lag d s.kept))) ≡ Some g
     → Inv lag (record { digest = d; tick = s.now } ∷ done) record {
       halves = wrote s.halves g;
@@ -76,7 +76,7 @@ block-put Second x b = refl
 
 -- what a crash finds after a write that was not told as done
 again-after : (lag d : ℕ) (done : List Entry) (s : State) (g : Good) → Inv lag done s
-    → length (live_of s.now lag s.kept) < 8192 → All Fits (recorded s.now lag d s.kept)
+    → length (live_of s.now lag s.kept) < 8192 → AllByRecursion Fits (recorded s.now lag d s.kept)
     → next_of s.halves (length (packed (recorded s.now lag d s.kept))) ≡ Some g
     → (c : Cut) → Junks measured_of c
     → (x : Entry) → In x s.kept → live s.now lag x.tick ≡ true
@@ -94,7 +94,7 @@ again-after lag d done s g i room fits e (Junk y) j x q l =
 
 -- a thing was not recorded
 did-not-so : (lag d : ℕ) (done : List Entry) (s : State) (g : Good) (b' : Blocks) → Inv lag done s → s.wake ≤ s.now
-    → length (live_of s.now lag s.kept) < 8192 → All Fits (recorded s.now lag d s.kept)
+    → length (live_of s.now lag s.kept) < 8192 → AllByRecursion Fits (recorded s.now lag d s.kept)
     → next_of s.halves (length (packed (recorded s.now lag d s.kept))) ≡ Some g
     → block (other g.which) b' ≡ block (other g.which) s.blocks
     → Left measured_of g.which (half g.turn (packed (recorded s.now lag d s.kept))) s.blocks false b'
@@ -114,7 +114,7 @@ did-not-so lag d done s g b' i awake room fits e same (c, (j, is)) =
 
 -- a recording, told as done or not
 record-so : (lag d : ℕ) (done : List Entry) (s : State) (h' : Halves) (b' : Blocks) → Inv lag done s → s.wake ≤ s.now
-    → length (live_of s.now lag s.kept) < 8192 → All Fits (recorded s.now lag d s.kept)
+    → length (live_of s.now lag s.kept) < 8192 → AllByRecursion Fits (recorded s.now lag d s.kept)
     → (o : Option Good) → next_of s.halves (length (packed (recorded s.now lag d s.kept))) ≡ o
     → Told o s.halves s.blocks (packed (recorded s.now lag d s.kept)) true h' b'
     → Inv lag (record { digest = d; tick = s.now } ∷ done) record { halves = h'; blocks = b'; kept = recorded s.now lag d s.kept; now = s.now; wake = s.wake }
@@ -126,7 +126,7 @@ record-so lag d done s h' b' i awake room fits (Some g) e t =
     subst P (sym t.1) (subst Q (sym t.0) (did_so lag d done s g i awake room fits e))
 
 fail-so : (lag d : ℕ) (done : List Entry) (s : State) (h' : Halves) (b' : Blocks) → Inv lag done s → s.wake ≤ s.now
-    → length (live_of s.now lag s.kept) < 8192 → All Fits (recorded s.now lag d s.kept)
+    → length (live_of s.now lag s.kept) < 8192 → AllByRecursion Fits (recorded s.now lag d s.kept)
     → (o : Option Good) → next_of s.halves (length (packed (recorded s.now lag d s.kept))) ≡ o
     → Told o s.halves s.blocks (packed (recorded s.now lag d s.kept)) false h' b'
     → LeftAt o (packed (recorded s.now lag d s.kept)) s.blocks false b'

@@ -20,7 +20,7 @@ use Rattle.parts.specs.Tick.{lately}
 use Rattle.parts.specs.declared.account.Entry.{Entry}
 use Rattle.replay.specs.Replay.{Begun, Recorded, nothing}
 use Rattle.service_rules.specs.Memory.{live_of, recorded, stands}
-use Rattle.std.specs.List.{AllByRecursion as All}
+use Rattle.std.specs.List.{AllByRecursion}
 
 -- what is known of the halves, what stands on the device, what is remembered, the tick, and until when it waits
 pub record State : Type 0 where
@@ -48,7 +48,7 @@ LeftMaking false b h b' x' m = Unit {0}
 pub record Records (lag : ℕ) (s : State) (d : ℕ) (r : Bool) (s' : State) : Type 0 where
   pub awake : s.wake ≤ s.now
   pub room : length (live_of s.now lag s.kept) < 8192
-  pub fits : All Fits (recorded s.now lag d s.kept)
+  pub fits : AllByRecursion Fits (recorded s.now lag d s.kept)
   pub written : Recorded s.now lag d s.kept s.halves s.blocks r s'.halves s'.blocks
   pub left : LeftAt (next_of s.halves (length (packed (recorded s.now lag d s.kept)))) (packed (recorded s.now lag d s.kept)) s.blocks r s'.blocks
   pub is : s' ≡ record { halves = s'.halves; blocks = s'.blocks; kept = cond r (recorded s.now lag d s.kept) s.kept; now = s.now; wake = s.wake }

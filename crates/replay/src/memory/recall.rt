@@ -5,7 +5,7 @@ ghost use Rattle.parts.specs.declared.account.Entry.{Entry};
 ghost use Rattle.halves.specs.Blocks.{block};
 ghost use Rattle.replay.specs.Replay.{Begun, Moved, Notes, latest, latest_in};
 ghost use Rattle.service_rules.specs.Memory.{live_of};
-ghost use Rattle.std.proofs.Common.{rules, arith};
+ghost use Rattle.std.proofs.Common.{rules};
 
 use super::ReplayMemory;
 use crate::write::{add, write_down};
@@ -109,7 +109,7 @@ impl<D: Device + Drop> Memory for ReplayMemory<D> {
 
     ghost keeps = { λ m n. Moved (beside m.digests.items m.ticks.items) m.halves (D.Device.blocks m.device) n.writes (beside n.digests.items n.ticks.items) n.halves (D.Device.blocks n.device) };
 
-    ghost same = { first_of (Prim.search rules, Prim.grind (arith, Self.row.coded.inj)) };
+    ghost same = { Prim.search rules };
 
     fn stands(&self, digest: u128, tick: u64, lag: u64) -> bool {
         stands_in(
