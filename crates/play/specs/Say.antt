@@ -14,7 +14,6 @@ use Rattle.locked.specs.Locked.{words_in}
 use Rattle.parts.specs.Fault.{fault_number}
 use Rattle.parts.specs.declared.fault.Fault.{Fault}
 use Rattle.parts.specs.declared.word.Key.{Key}
-use Rattle.parts.specs.declared.word.What.{What}
 use Rattle.words.specs.Laws.{bytes_text}
 
 abbrev pub then_number : List ℕ → ℕ → List ℕ
