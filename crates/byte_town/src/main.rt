@@ -7,6 +7,7 @@ use commands::lines::{first_line, read};
 use play::{Town, begin};
 use printed::Text;
 use std::io::{Read, Write};
+use std::process::ExitCode;
 use std::{env, fs};
 
 // The first line of a script that says something: a town begins by it, or it is fault 13.
@@ -86,10 +87,12 @@ fn run(rt: &HostRuntime) -> anyhow::Result<()> {
     play_script(rt, text.as_slice())
 }
 
-fn main(rt: HostRuntime) -> anyhow::Result<()> {
-    let done = run(&rt);
-    if let Err(e) = &done {
-        eprintln!(rt; "town: {e}")?;
+fn main(rt: HostRuntime) -> ExitCode {
+    match run(&rt) {
+        Ok(()) => ExitCode::SUCCESS,
+        Err(e) => {
+            let _told = eprintln!(rt; "town: {e}");
+            ExitCode::FAILURE
+        }
     }
-    done
 }
