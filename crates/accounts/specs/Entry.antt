@@ -1,7 +1,7 @@
 -- One account in 33 bytes. Assumes nothing. Vocabulary:
 --   state_of a     the state in a byte: 0 absent, 1 open, 2 closed
---   entry a       the bytes of an account: state, then own key
---   above a b     b is what a may become
+--   entry a        the bytes of an account: state, then own key
+--   above a b      b is what a may become
 --   account_in bs  the account that stands in 33 bytes; the key of an absent one is not looked at
 use Rattle.std.specs.Prelude.{◌≡◌, ℕ, Bool, false, cond, List, ◌∷◌, length, take, drop, ◌==◌, slice_index}
 use Rattle.house_rules.specs.Account.{is_absent, key_in}

@@ -1,7 +1,7 @@
 -- All accounts in 33,792 bytes. Assumes nothing. Vocabulary:
 --   payload xs         the bytes of accounts, by their numbers
---   account_at bs n     the account of number n in these bytes; the entry of number 0 is not looked at
---   accounts_in bs      the 1,024 accounts in these bytes
+--   account_at bs n    the account of number n in these bytes; the entry of number 0 is not looked at
+--   accounts_in bs     the 1,024 accounts in these bytes
 --   low bs n           the states of the numbers from 1 to n are at most 2
 --   measure bs         as many bytes as the payload at the front of these has, if one stands there
 use Rattle.std.specs.Prelude.{ℕ, zero, suc, ◌+◌, ◌*◌, Bool, true, cond, ◌&&◌, List, map, length, take, drop, Some, None, ◌==◌, nat_le, slice_index}

@@ -1,6 +1,6 @@
 // All accounts in 33,792 bytes, by their numbers.
 ghost use Rattle.std.specs.Prelude.{◌≡◌, ◌<◌, ◌≤◌, length};
-ghost use Rattle.accounts.specs.Payload.{account_at, accounts_in, low, measure as measureOf, payload as payload_of};
+ghost use Rattle.accounts.specs.Payload.{account_at, accounts_in, low, measure as measure_of, payload as payload_of};
 ghost use Rattle.accounts.specs.Bytes;
 
 use super::entry::{account_in, put_account};
@@ -61,7 +61,7 @@ fn are_low(bytes: &[u8]) -> bool
 pub struct Payload;
 
 impl Format for Payload {
-    ghost measured = { λ _. measureOf };
+    ghost measured = { λ _. measure_of };
 
     ghost most = { λ _. 33792 };
 

@@ -2,7 +2,7 @@
 --
 -- Boxed                 a box: whose, own key, tick, counts, three tables with the newest first, drawn bytes left
 -- asked b k v l         the box that asked v under k for line l; asking_of: what it sent
--- ticket_of i hs         the ticket with that id
+-- ticket_of i hs        the ticket with that id
 -- Starts                what is promised of a start; box_on_tick: a box that was told a tick
 use Rattle.std.specs.Prelude.{◌≡◌, ℕ, ◌/◌, ◌%◌, ◌^◌, Bool, true, false, cond, not, ◌||◌, List, [], ◌∷◌, drop, replicate, Some, None, Ok, Err, vec_items, Option, Result, ◌==◌, nat_le, nat_lt, slice_set}
 use Rattle.box_rules.specs.Table.{put}

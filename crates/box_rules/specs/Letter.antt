@@ -2,8 +2,8 @@
 --
 -- pending_for b u l        what a letter belongs to, by the key under which it opened
 -- letter_conditions b u l  all that can be wrong with it
--- taken b u l             what it answers; taken_after: what it is afterwards
--- lineFor b k r           the place of the line that a receipt belongs to
+-- taken b u l              what it answers; taken_after: what it is afterwards
+-- lineFor b k r            the place of the line that a receipt belongs to
 use Rattle.std.specs.Prelude.{◌≡◌, ℕ, ◌+◌, ◌-◌, ◌^◌, cond, not, List, [], ◌∷◌, length, is_some, Some, None, Option, ◌==◌, nat_le, nat_lt}
 use Rattle.box_rules.specs.Chest.{Boxed, asked, asking_of}
 use Rattle.box_rules.specs.Line.{wrong}

@@ -2,9 +2,9 @@
 --
 -- pass_of i hs           what is known of the ticket with that id
 -- line_conditions ..     all that can be wrong with a line that is in range, the lowest number first
--- wanted b v by w       what it answers to a line for service v, by that ticket or by none, with these words
+-- wanted b v by w        what it answers to a line for service v, by that ticket or by none, with these words
 -- wanted_after b v by w  what it is afterwards
--- wrong r               the fault of an answer, if it is one
+-- wrong r                the fault of an answer, if it is one
 use Rattle.std.specs.Prelude.{◌≡◌, ℕ, ◌+◌, ◌-◌, ◌^◌, Bool, false, cond, not, ◌&&◌, ◌||◌, List, [], ◌∷◌, length, drop, is_some, Some, None, Option, ◌==◌, nat_lt}
 use Rattle.box_rules.specs.Chest.{Boxed, asked, asking_of}
 use Rattle.box_rules.specs.Table.{put}

@@ -21,7 +21,7 @@ use Rattle.byte_rows.proofs.Reading.{ReadAsking, asking-read-house, asking-read-
 use Rattle.byte_rows.proofs.Simulates.{C, FitsAnswer, FitsCall, FitsReply, FitsTold, Goes, Known, N, answers, at-blind, at_same, blind, box-changed, more-words, quiet, replies, says, seen, stays, take-mem, theft, with-boxes}
 use Rattle.byte_rows.specs.Premise.{Alone, Heard, HeardByBox, HeardByHouse, HeardByService, Meets, Try, asking_tries, box_tries, house_tries, nonces, service_tries, ticket_tries, tries_in}
 use Rattle.byte_rows.specs.Row.{act_at_box, act_at_house, act_at_service, act_of}
-use Rattle.byte_rows.specs.System.{Basis, Bytewise, Call, Made, answered, answer_made, box_says, box-left, brings, closes, crashes, device, hands, opens, read_by_box, read_by_house, read_by_service, replied, reply_made, sent_word, steals, step, tells, told_by, told_made, wants}
+use Rattle.byte_rows.specs.System.{Basis, Bytewise, Call, Made, answered, answer_made, box_says, box_left, brings, closes, crashes, device, hands, opens, read_by_box, read_by_house, read_by_service, replied, reply_made, sent_word, steals, step, tells, told_by, told_made, wants}
 use Rattle.byte_rows.specs.System as bytes
 use Rattle.byte_rows.specs.Term.{Content, Whole, air_of, content_term, framed_term, inside_term, lock_term, name_in, read_or, word_term}
 use Rattle.byte_rows.specs.Term as term
@@ -91,19 +91,19 @@ module _ (l : Locks) (c : Basis) (g : Whole) (apart : Apart c.own g.draws) (lock
   opened w tries h x m got inside o = opened-gets l c g locks fronted b sub known.gets x inside got (h.sound x m inside o)
 
   -- a ticket and an asking
-  asking-heard : (k : Key) (w : Bytes) (tries : Frame → List Try) → ((t q : Bytes) → tries (frame.asking t q) ≡ ticket_tries l k t q)
+  asking_heard : (k : Key) (w : Bytes) (tries : Frame → List Try) → ((t q : Bytes) → tries (frame.asking t q) ≡ ticket_tries l k t q)
       → Heard l c g b w (tries_in tries (framed w)) → (t : Ticket) (q : Asking) → ReadAsking l k w t q
       → (Gets air (ticket_term (name_in l c g) k t)) × (Gets air (asking_term (name_in l c g) t.key q))
-  asking-heard k w tries tried h t q r =
+  asking_heard k w tries tried h t q r =
       let fine = pieces w (tries_in tries (framed w)) h (frame.asking r.ticket r.asking) r.frames in
       let in-tries : (x : Try) → Memᴰ x (ticket_tries l k r.ticket r.asking) → Memᴰ x (tries_in tries (framed w)) =
       λ x m. subst (λ (z : Result Frame Fault). Memᴰ x (tries_in tries z)) (sym r.frames) (subst (λ (xs : List Try). Memᴰ x xs) (sym (tried r.ticket r.asking)) m)
       in
-      let o = opened-as read_ticket (l.opens 1 k.0 r.ticket) t r.is-ticket in
+      let o = opened-as read_ticket (l.opens 1 k.0 r.ticket) t r.is_ticket in
       let one = opened w (tries_in tries (framed w)) h (record { kind = 1; key = k.0; lock = r.ticket }) (in-tries _ (Memᴰ.head refl)) (Term.left fine) o.inside o.opens in
       let two =
       opened w (tries_in tries (framed w)) h (record { kind = 3; key = t.key.0; lock = r.asking })
-      (in-tries _ (Memᴰ.tail (subst (λ (z : Result Ticket Fault). Memᴰ (record { kind = 3; key = t.key.0; lock = r.asking }) (asking_tries l r.asking z)) (sym r.is-ticket) (Memᴰ.head refl))))
+      (in-tries _ (Memᴰ.tail (subst (λ (z : Result Ticket Fault). Memᴰ (record { kind = 3; key = t.key.0; lock = r.asking }) (asking_tries l r.asking z)) (sym r.is_ticket) (Memᴰ.head refl))))
       (Term.right fine) r.opened.inside r.opened.opens
       in (
         subst (λ (z : Result Ticket Fault). Gets air (Lock 1 (name_in l c g k.0) (content_term (name_in l c g) (read_or Content.ticket o.inside z)))) o.reads one,
@@ -115,12 +115,12 @@ module _ (l : Locks) (c : Basis) (g : Whole) (apart : Apart c.own g.draws) (lock
       → Goes l c g b air (act_at_house l c (read_by_house l c b w)) (step l c (brings House w) b)
   at-house w h fits n = go (read_by_house l c b w) refl fits n
     where
-      gone : (r : Reply) (h' : Home) → FitsReply l c g r → Known l c g (bytes.with-sent (sent_word (house.sent_by l r)) (reply_drawn r) (reply_made r) (bytes.with-home h' b)) (reply_sent (name_in l c g) r ++ air)
+      gone : (r : Reply) (h' : Home) → FitsReply l c g r → Known l c g (bytes.with_sent (sent_word (house.sent_by l r)) (reply_drawn r) (reply_made r) (bytes.with_home h' b)) (reply_sent (name_in l c g) r ++ air)
       gone r h' f = record { gets = more-words l c g b (reply_sent (name_in l c g) r) (sent_word (house.sent_by l r)) known.gets (replies l c g b air known r f); held = λ a x k. gets-later (reply_sent (name_in l c g) r) (known.held a x k) }
 
       go : (r : house.Read) → read_by_house l c b w ≡ r → FitsReply l c g (house.answer_to l b.home r) → Next (reply_drawn (house.answer_to l b.home r))
           → Goes l c g b air (act_at_house l c r)
-          (bytes.with-sent (sent_word (house.sent_by l (house.answer_to l b.home r))) (reply_drawn (house.answer_to l b.home r)) (reply_made (house.answer_to l b.home r)) (bytes.with-home (house.after_word l b.home r) b))
+          (bytes.with_sent (sent_word (house.sent_by l (house.answer_to l b.home r))) (reply_drawn (house.answer_to l b.home r)) (reply_made (house.answer_to l b.home r)) (bytes.with_home (house.after_word l b.home r) b))
       go (house.logs a x) e f n =
           let r = login-read l b.home w a x e in
           let fine = pieces w (tries_in (house_tries l b.home) (framed w)) h.heard (frame.login a r.lock) r.frames in
@@ -141,7 +141,7 @@ module _ (l : Locks) (c : Basis) (g : Whole) (apart : Apart c.own g.draws) (lock
             known = gone _ _ f;
           }
       go (house.asks t q) e f n =
-          let heard = asking-heard b.home.key w (house_tries l b.home) (λ x y. refl) h.heard t q (asking-read-house l b.home w t q e) in
+          let heard = asking_heard b.home.key w (house_tries l b.home) (λ x y. refl) h.heard t q (asking-read-house l b.home w t q e) in
           record {
             can = record { ticket = heard.0; asking = heard.1; new = reply-new _ n };
             air' = reply_sent (name_in l c g) (house.answer_to l b.home (house.asks t q)) ++ air;
@@ -155,16 +155,16 @@ module _ (l : Locks) (c : Basis) (g : Whole) (apart : Apart c.own g.draws) (lock
       → Goes l c g b air (act_at_service l c v (read_by_service l c b v w)) (step l c (brings (Service v) w) b)
   at-service v w h fits = go (read_by_service l c b v w) refl fits
     where
-      gone : (r : Answer) (v' : View) → FitsAnswer l c g r → Known l c g (bytes.with-sent (sent_word (service.sent_by l r)) [] (answer_made r) (bytes.with-side v v' b)) (answer_sent (name_in l c g) r ++ air)
+      gone : (r : Answer) (v' : View) → FitsAnswer l c g r → Known l c g (bytes.with_sent (sent_word (service.sent_by l r)) [] (answer_made r) (bytes.with-side v v' b)) (answer_sent (name_in l c g) r ++ air)
       gone r v' f = record { gets = more-words l c g b (answer_sent (name_in l c g) r) (sent_word (service.sent_by l r)) known.gets (answers l c g b air known r f); held = λ a x k. gets-later (answer_sent (name_in l c g) r) (known.held a x k) }
 
       go : (r : service.Read) → read_by_service l c b v w ≡ r → FitsAnswer l c g (service.answer_to l (b.side v) r)
           → Goes l c g b air (act_at_service l c v r)
-          (bytes.with-sent (sent_word (service.sent_by l (service.answer_to l (b.side v) r))) [] (answer_made (service.answer_to l (b.side v) r)) (bytes.with-side v (service.after_word l (b.side v) r) b))
+          (bytes.with_sent (sent_word (service.sent_by l (service.answer_to l (b.side v) r))) [] (answer_made (service.answer_to l (b.side v) r)) (bytes.with-side v (service.after_word l (b.side v) r) b))
       go (service.asks t q) e f =
-          let heard = asking-heard (own_of c.own v) w (service_tries l (own_of c.own v)) (λ x y. refl) h.heard t q (asking-read-service l (own_of c.own v) w t q e) in
+          let heard = asking_heard (own_of c.own v) w (service_tries l (own_of c.own v)) (λ x y. refl) h.heard t q (asking-read-service l (own_of c.own v) w t q e) in
           record {
-            can = record { a-service = h.a-service; there = h.there; ticket = heard.0; asking = heard.1 };
+            can = record { a_service = h.a_service; there = h.there; ticket = heard.0; asking = heard.1 };
             air' = answer_sent (name_in l c g) (service.answer_to l (b.side v) (service.asks t q)) ++ air;
             same = refl;
             known = gone _ _ f;
@@ -179,10 +179,10 @@ module _ (l : Locks) (c : Basis) (g : Whole) (apart : Apart c.own g.draws) (lock
 
   -- what a box says, here and there
   says_same : (a : ℕ) (r' r : Told.Answer) (y : Box) (x : Boxed Bytes) → r' ≡ r → y ≡ blind x
-      → acts.with-sent (told_sent (name_in l c g) r') (told_drawn r') (acts.with-box a y (seen b air)) ≡ seen (box_says l c a x r b) (told_sent (name_in l c g) r ++ air)
+      → acts.with_sent (told_sent (name_in l c g) r') (told_drawn r') (acts.with_box a y (seen b air)) ≡ seen (box_says l c a x r b) (told_sent (name_in l c g) r ++ air)
   says_same a r' r y x e f =
-      ap (λ (z : Told.Answer). acts.with-sent (told_sent (name_in l c g) z) (told_drawn z) (acts.with-box a y (seen b air))) e
-      ∙ with-boxes (acts.with-sent (told_sent (name_in l c g) r) (told_drawn r) (seen b air)) (at-blind a x y b.box f)
+      ap (λ (z : Told.Answer). acts.with_sent (told_sent (name_in l c g) z) (told_drawn z) (acts.with_box a y (seen b air))) e
+      ∙ with-boxes (acts.with_sent (told_sent (name_in l c g) r) (told_drawn r) (seen b air)) (at-blind a x y b.box f)
 
   -- a line of a reader
   at-line : (a v : ℕ) (by : Option ℕ) (w : What) → Alone c a → FitsTold l c g (wanted_after (b.box a) v by w) (wanted (b.box a) v by w) → Next (told_drawn (wanted (b.box a) v by w))
@@ -209,14 +209,14 @@ module _ (l : Locks) (c : Basis) (g : Whole) (apart : Apart c.own g.draws) (lock
           go false None (Some y) k = known.held a x k
 
   -- a box that hears and says nothing
-  silent : (a : ℕ) (r : Told.Answer) → box_says l c a (b.box a) r b ≡ bytes.with-box a (b.box a) b → Goes l c g b air (acts.hears (Reader a)) (box_says l c a (b.box a) r b)
+  silent : (a : ℕ) (r : Told.Answer) → box_says l c a (b.box a) r b ≡ bytes.with_box a (b.box a) b → Goes l c g b air (acts.hears (Reader a)) (box_says l c a (b.box a) r b)
   silent a r e =
       subst (λ (z : Bytewise). Goes l c g b air (acts.hears (Reader a)) z) (sym e)
       (record {
         can = tt;
         air' = air;
         same = with-boxes (seen b air) (ap (λ (f : ℕ → Boxed Bytes). λ (k : ℕ). blind (f k)) (sym (at_same a b.box)));
-        known = stays l c g b air known (bytes.with-box a (b.box a) b) refl refl (at_same a b.box);
+        known = stays l c g b air known (bytes.with_box a (b.box a) b) refl refl (at_same a b.box);
       })
 
   -- a word at a box
@@ -224,7 +224,7 @@ module _ (l : Locks) (c : Basis) (g : Whole) (apart : Apart c.own g.draws) (lock
       → Goes l c g b air (act_at_box l c a (read_by_box l c b a w)) (step l c (brings (Reader a) w) b)
   at-box a w h fits n = go (read_by_box l c b a w) refl fits n
     where
-      confirms : (o : Option Pending) → box_says l c a (b.box a) (shown_for o) b ≡ bytes.with-box a (b.box a) b
+      confirms : (o : Option Pending) → box_says l c a (b.box a) (shown_for o) b ≡ bytes.with_box a (b.box a) b
       confirms None = refl
       confirms (Some p) = refl
 
@@ -257,7 +257,7 @@ module _ (l : Locks) (c : Basis) (g : Whole) (apart : Apart c.own g.draws) (lock
             can =
                 record {
                   reader = alone-there a h.reader;
-                  letter-heard = subst (λ (z : Under). Gets air (letter_term (name_in l c g) (under_key (C l c g) (N l c g) (blind (b.box a)) z) x)) (sym r.under) (under r.tried.place r.tried.key (opened-first l 2 (b.box a).key _ r.letter r.tried r.first) x two);
+                  letter_heard = subst (λ (z : Under). Gets air (letter_term (name_in l c g) (under_key (C l c g) (N l c g) (blind (b.box a)) z) x)) (sym r.under) (under r.tried.place r.tried.key (opened-first l 2 (b.box a).key _ r.letter r.tried r.first) x two);
                   new = subst (λ (z : Told.Answer). New (C l c g) (N l c g) (seen b air) (told_drawn z)) (sym (taken-by (λ _. tt {0}) (b.box a) u x)) (told-new _ n);
                 };
             air' = told_sent (name_in l c g) (taken (b.box a) u x) ++ air;
@@ -281,7 +281,7 @@ module _ (l : Locks) (c : Basis) (g : Whole) (apart : Apart c.own g.draws) (lock
   goes (tells to) h f y n = record { can = tt; air' = air; same = refl; known = record { gets = known.gets; held = known.held } }
   goes (hands House bs) h f y n = quiet l c g b air known (hands House bs) tt (acts.hands House bs) tt (step l c (hands House bs) b) refl refl refl refl
   goes (hands (Service v) bs) h f y n = quiet l c g b air known (hands (Service v) bs) tt (acts.hands (Service v) bs) tt (step l c (hands (Service v) bs) b) refl refl refl refl
-  goes (hands (Reader a) bs) h f y n = box-changed l c g b air known (acts.hands (Reader a) bs) a (box-left ((b.box a).left ++ bs) (b.box a)) _ tt refl refl (known.held a)
+  goes (hands (Reader a) bs) h f y n = box-changed l c g b air known (acts.hands (Reader a) bs) a (box_left ((b.box a).left ++ bs) (b.box a)) _ tt refl refl (known.held a)
   goes (steals m) h f y n = theft l c g b air known m h
   goes (opens m k w) h f y n = quiet l c g b air known (opens m k w) h (acts.opens m k w) (record { there = h.there; own = h.own }) (step l c (opens m k w) b) refl refl refl refl
   goes (closes m w) h f y n = quiet l c g b air known (closes m w) tt (acts.closes m w) tt (step l c (closes m w) b) refl refl refl refl

@@ -17,7 +17,7 @@ use Rattle.byte_rows.proofs.Reading.{asking-read-house, asking-read-service, let
 use Rattle.byte_rows.proofs.Rows.{EachFits, Part, grown-made, made_by, part-before}
 use Rattle.byte_rows.proofs.Simulates.{FitsAnswer, FitsAsking, FitsCall, FitsReply, FitsTold, ticket-held}
 use Rattle.byte_rows.specs.Premise.{Each, Fair, HeardByBox, Meets, Row, nonces, whole_of}
-use Rattle.byte_rows.specs.System.{Basis, Bytewise, Call, Made, answer_made, answered, asking_made, box-left, brings, closes, crashes, device, hands, lock_of, opens, read_by_box, read_by_house, read_by_service, replied, reply_made, run, steals, step, tells, told_by, told_made, wants}
+use Rattle.byte_rows.specs.System.{Basis, Bytewise, Call, Made, answer_made, answered, asking_made, box_left, brings, closes, crashes, device, hands, lock_of, opens, read_by_box, read_by_house, read_by_service, replied, reply_made, run, steals, step, tells, told_by, told_made, wants}
 use Rattle.byte_rows.specs.Term.{Content, Whole, content_term, lock_term, name_in, read_or}
 use Rattle.codec.proofs.Insides.{asking-codec, both, cond-both-true, letter-codec, login-codec, receipt-codec, ticket-codec}
 use Rattle.codec.proofs.Words.{word-codec}
@@ -207,7 +207,7 @@ module _ (l : Locks) (c : Basis) where
         now = ok.now;
         life = ok.life;
         box =
-            boxes-at a (box-left ((b.box a).left ++ bs) (b.box a)) b.box
+            boxes-at a (box_left ((b.box a).left ++ bs) (b.box a)) b.box
             (record { number = (ok.box a).number; now = (ok.box a).now; logins = (ok.box a).logins; askings = (ok.box a).askings; tickets = (ok.box a).tickets }) ok.box;
       }
   range-step b (steals m) h ok = record { now = ok.now; life = ok.life; box = ok.box }

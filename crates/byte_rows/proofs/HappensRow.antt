@@ -168,7 +168,7 @@ module _ (g : Whole) where
   unfolding first_fault
   served-meets = (
     record {
-      a-service = λ e. omega arith;
+      a_service = λ e. omega arith;
       there = omega arith;
       heard =
           was-sent g (run plain basis 10 asks) w5 _ refl (Memᴰ.head refl) (
@@ -183,7 +183,7 @@ module _ (g : Whole) where
   unfolding first_fault
   again-meets = (
     record {
-      a-service = λ e. omega arith;
+      a_service = λ e. omega arith;
       there = omega arith;
       heard =
           was-sent g (run plain basis 10 served) w5 _ refl (Memᴰ.tail (Memᴰ.head refl)) (
@@ -253,9 +253,9 @@ row =
     }
 
 -- before the line: no word was brought yet
-before-row : Row plain basis 10 before
+before_row : Row plain basis 10 before
 unfolding Apart
-before-row =
+before_row =
     record {
       each = before-meets (whole_of plain basis 10 before);
       draws = tt;
@@ -288,17 +288,17 @@ ready-before =
     record {
       known = refl;
       is_open = refl;
-      service-known = refl;
+      service_known = refl;
       words = omega arith;
-      house-at-work = record { awake = refl; writes = refl; room = omega arith; drawn = omega arith };
-      at-work = record { awake = refl; writes = refl; room = omega arith; drawn = omega arith };
+      house_at_work = record { awake = refl; writes = refl; room = omega arith; drawn = omega arith };
+      at_work = record { awake = refl; writes = refl; room = omega arith; drawn = omega arith };
       drawn = omega arith;
       lines = omega arith;
       tickets = omega arith;
-      first-new = refl;
-      second-new = refl;
-      no-own-key = refl;
-      house-digest = refl;
+      first_new = refl;
+      second_new = refl;
+      no_own_key = refl;
+      house_digest = refl;
       digest = refl;
       one_key = λ k x m e. one k x e (Memᴰ.cases_cons m);
     }
@@ -323,7 +323,7 @@ can-happen =
       again = refl;
       is-closed = refl;
       stolen = refl;
-      before-row = before-row;
-      opens-again = plain-opens;
+      before_row = before_row;
+      opens_again = plain-opens;
       ready = ready-before;
     }

@@ -8,7 +8,7 @@ use Rattle.byte_rows.specs.Row.{AskedOnce, Fresh, InEvery, InOurs, IsRow, Kept, 
 use Rattle.byte_rows.specs.Served.{Opens, ServedByAll, ServedByOurs}
 use Rattle.byte_rows.specs.System.{Basis}
 use Rattle.locked.specs.Locked.{Locks, ours}
-use Rattle.seal.proofs.Opening.{length-lock, opens-again, take-lock}
+use Rattle.seal.proofs.Opening.{length-lock, opens_again, take-lock}
 
 pub ours-fair : Fair ours
 ours-fair =
@@ -41,7 +41,7 @@ pub of-ours : {P : (l : Locks) → Basis → Type 0} → InEvery P → InOurs P
 of-ours h c = h ours ours-fair c
 
 pub ours-opens : Opens ours
-ours-opens = opens-again
+ours-opens = opens_again
 
 pub served : ServedByAll
 served l fair op c = served-row.served l fair op c

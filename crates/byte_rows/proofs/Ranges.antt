@@ -144,7 +144,7 @@ ask-good h t q d n now life = go (house-rules.readable q) (first_fault (house-ru
         let p7 = passed _ _ p6.1 in
         let p8 = passed _ _ p7.1 in
         let w : unknown h.accounts (house-rules.wanted q) ≡ false =
-        subst (λ (b : Bool). (not b && unknown h.accounts (house-rules.wanted q)) ≡ false) k.a-service
+        subst (λ (b : Bool). (not b && unknown h.accounts (house-rules.wanted q)) ≡ false) k.a_service
         (subst (λ (b : Bool). (b && (not (eqb (house-rules.wanted q) 0) && unknown h.accounts (house-rules.wanted q))) ≡ false) k.asks-house k.there)
         in
         giving-good h (house-rules.asked_given h t q) (ltb-false _ _ p8.0) (known-low h.accounts (house-rules.wanted q) w) (known-low h.accounts t.reader k.known) n now life

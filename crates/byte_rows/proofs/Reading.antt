@@ -46,7 +46,7 @@ module _ (l : Locks) where
     pub ticket : Bytes
     pub asking : Bytes
     pub frames : framed w ≡ Ok (frame.asking ticket asking)
-    pub is-ticket : ticket_in l k ticket ≡ Ok t
+    pub is_ticket : ticket_in l k ticket ≡ Ok t
     pub opened : Opened (λ bs. asking_ok (read_asking bs)) (l.opens 3 t.key.0 asking) q
 
   -- a letter that was read at a box
@@ -112,7 +112,7 @@ module _ (l : Locks) where
                 ticket = tk;
                 asking = qb;
                 frames = f;
-                is-ticket = i ∙ ap (λ (z : Ticket). Ok z) p;
+                is_ticket = i ∙ ap (λ (z : Ticket). Ok z) p;
                 opened = opened-as (λ bs. asking_ok (read_asking bs)) (l.opens 3 t.key.0 qb) q (subst (λ (z : Ticket). asking_in l z.key qb ≡ Ok q) p (j ∙ ap (λ (z : Asking). Ok z) o));
               }
           then (Err g) j m = absurd (let z : ◌≡◌ {A = ℕ} 0 1 = cc in omega arith)
@@ -140,7 +140,7 @@ module _ (l : Locks) where
                 ticket = tk;
                 asking = qb;
                 frames = f;
-                is-ticket = i ∙ ap (λ (z : Ticket). Ok z) p;
+                is_ticket = i ∙ ap (λ (z : Ticket). Ok z) p;
                 opened = opened-as (λ bs. asking_ok (read_asking bs)) (l.opens 3 t.key.0 qb) q (subst (λ (z : Ticket). asking_in l z.key qb ≡ Ok q) p (j ∙ ap (λ (z : Asking). Ok z) o));
               }
           then (Err g) j m = absurd (let z : ◌≡◌ {A = ℕ} 0 1 = cc in omega arith)
@@ -195,7 +195,7 @@ module _ (l : Locks) where
   pub record OpenedBy (kind n : ℕ) (ks : List Key) (w : Bytes) (t : Tried) : Type 0 where
     pub known : Memᴰ t.key ks
     pub opens : l.opens kind t.key.0 w ≡ Some t.inside
-    pub not-before : n ≤ t.place
+    pub not_before : n ≤ t.place
 
   pub opened-by : (kind n : ℕ) (ks : List Key) (w : Bytes) (t : Tried) → opens_first l kind n ks w ≡ Some t → OpenedBy kind n ks w t
   opened-by kind n [] w t e = absurd (let z : ◌≡◌ {A = ℕ} 0 1 = cc in omega arith)
@@ -203,7 +203,7 @@ module _ (l : Locks) where
     where
       go : (opens_first l kind (suc n) ks w ≡ Some t → OpenedBy kind (suc n) ks w t) → (o : Option Bytes) → l.opens kind k.0 w ≡ o
           → elim o [ None ↦ opens_first l kind (suc n) ks w | Some x ↦ Some (record { place = n; key = k; inside = x }) ] ≡ Some t → OpenedBy kind n (k ∷ ks) w t
-      go rest None i j = let r = rest j in record { known = Memᴰ.tail r.known; opens = r.opens; not-before = let a = r.not-before in omega arith }
+      go rest None i j = let r = rest j in record { known = Memᴰ.tail r.known; opens = r.opens; not_before = let a = r.not_before in omega arith }
       go rest (Some x) i j =
           let p : record { place = n; key = k; inside = x } ≡ t = cc in
           let a : k ≡ t.key = ap (λ (z : Tried). z.key) p in
@@ -212,7 +212,7 @@ module _ (l : Locks) where
           record {
             known = Memᴰ.head (sym a);
             opens = subst (λ (z : Key). l.opens kind z.0 w ≡ Some t.inside) a (i ∙ ap (λ (z : Bytes). Some z) d);
-            not-before = omega arith;
+            not_before = omega arith;
           }
 
   -- at the first place the first key opened
@@ -220,7 +220,7 @@ module _ (l : Locks) where
   opened-first kind k ks w t e zero = go (l.opens kind k.0 w) e
     where
       go : (o : Option Bytes) → elim o [ None ↦ opens_first l kind 1 ks w | Some x ↦ Some (record { place = 0; key = k; inside = x }) ] ≡ Some t → t.key ≡ k
-      go None j = absurd (let r = (opened-by kind 1 ks w t j).not-before in omega arith)
+      go None j = absurd (let r = (opened-by kind 1 ks w t j).not_before in omega arith)
       go (Some x) j =
           let p : record { place = 0; key = k; inside = x } ≡ t = cc in
           sym (ap (λ (z : Tried). z.key) p)

@@ -167,11 +167,11 @@ module _ (l : Locks) where
   module _ (c : Basis) where
     -- one call, by what was read, answered and left
     house-call : (s : Bytewise) (w : Bytes) (r : house.Read) (a : Reply) (h : Home) → house.read_at_house l s.home w ≡ r → house.answer_to l s.home r ≡ a → house.after_word l s.home r ≡ h
-        → step l c (brings House w) s ≡ bytes.with-sent (sent_word (house.sent_by l a)) (reply_drawn a) (reply_made a) (bytes.with-home h s)
+        → step l c (brings House w) s ≡ bytes.with_sent (sent_word (house.sent_by l a)) (reply_drawn a) (reply_made a) (bytes.with_home h s)
     house-call s w r a h e f g =
-        ap (λ (z : house.Read). bytes.with-sent (sent_word (house.sent_by l (house.answer_to l s.home z))) (reply_drawn (house.answer_to l s.home z)) (reply_made (house.answer_to l s.home z)) (bytes.with-home (house.after_word l s.home z) s)) e
-        ∙ ap (λ (z : Reply). bytes.with-sent (sent_word (house.sent_by l z)) (reply_drawn z) (reply_made z) (bytes.with-home (house.after_word l s.home r) s)) f
-        ∙ ap (λ (z : Home). bytes.with-sent (sent_word (house.sent_by l a)) (reply_drawn a) (reply_made a) (bytes.with-home z s)) g
+        ap (λ (z : house.Read). bytes.with_sent (sent_word (house.sent_by l (house.answer_to l s.home z))) (reply_drawn (house.answer_to l s.home z)) (reply_made (house.answer_to l s.home z)) (bytes.with_home (house.after_word l s.home z) s)) e
+        ∙ ap (λ (z : Reply). bytes.with_sent (sent_word (house.sent_by l z)) (reply_drawn z) (reply_made z) (bytes.with_home (house.after_word l s.home r) s)) f
+        ∙ ap (λ (z : Home). bytes.with_sent (sent_word (house.sent_by l a)) (reply_drawn a) (reply_made a) (bytes.with_home z s)) g
 
     box-call : (s : Bytewise) (a : ℕ) (w : Bytes) (x : Boxed Bytes) (r : box.Read) (q : Told.Answer) (x' : Boxed Bytes) → s.box a ≡ x → box.read_at_box l x w ≡ r → box.answer_to x r ≡ q → box.after_word x r ≡ x'
         → step l c (brings (Reader a) w) s ≡ box_says l c a x' q s
@@ -220,7 +220,7 @@ module _ (l : Locks) (fair : Fair l) (op : Opens l) (c : Basis) (s : Bytewise) (
   letter₂ = (six.service_letter l s a v w).inside
 
   service-there : nobody v ≡ false
-  service-there = or-false-left (nobody v) (is_absent (account_of h.accounts v)) r.service-known
+  service-there = or-false-left (nobody v) (is_absent (account_of h.accounts v)) r.service_known
 
   not-house : eqb v 0 ≡ false
   not-house = or-false-left (eqb v 0) (ltb 1023 v) service-there
@@ -229,7 +229,7 @@ module _ (l : Locks) (fair : Fair l) (op : Opens l) (c : Basis) (s : Bytewise) (
   reader-there = or-false-left (nobody a) (is_absent (account_of h.accounts a)) r.known
 
   own-a : own_key h.accounts a ≡ b.key
-  own-a = (o.accounts a r.known).own ∙ sym (o.boxes a).key-is
+  own-a = (o.accounts a r.known).own ∙ sym (o.boxes a).key_is
 
   drawn₂ : 32 ≤ length (drop 32 b.left)
   drawn₂ = let e = length-drop 32 b.left in let d = r.drawn in omega arith
@@ -238,7 +238,7 @@ module _ (l : Locks) (fair : Fair l) (op : Opens l) (c : Basis) (s : Bytewise) (
   drawn₃ = let e = length-drop 32 b.left in let f = length-drop 32 (drop 32 b.left) in let d = r.drawn in omega arith
 
   home-drawn : 64 ≤ length (drop 64 h.left)
-  home-drawn = let e = length-drop 64 h.left in let d = r.house-at-work.drawn in omega arith
+  home-drawn = let e = length-drop 64 h.left in let d = r.house_at_work.drawn in omega arith
 
   -- numbers under way are others than a new one
   others : (ps : List Pending) (x : Bytes) → Below (C l c (record { draws = s.used; made = s.made })) (N l c (record { draws = s.used; made = s.made })) (length s.used) ps → draw_name s.used x ≡ None
@@ -294,7 +294,7 @@ module _ (l : Locks) (fair : Fair l) (op : Opens l) (c : Basis) (s : Bytewise) (
   grant₂ = giving (until_of h) h.left (house-rules.login_given h a (login_of b).inside)
 
   logged₂ : house-rules.logged_in h a (login_of b).inside ≡ grant₂
-  logged₂ = login-answer h a (login_of b).inside r.known r.is_open (o.boxes a).now-is (let d = r.house-at-work.drawn in omega arith) r.house-at-work.awake
+  logged₂ = login-answer h a (login_of b).inside r.known r.is_open (o.boxes a).now_is (let d = r.house_at_work.drawn in omega arith) r.house_at_work.awake
 
   good₂ : GoodReply grant₂
   good₂ = subst (λ (z : Reply). GoodReply z) logged₂ (login-good h a (login_of b).inside good₁.0.0 rg.now rg.life)
@@ -303,13 +303,13 @@ module _ (l : Locks) (fair : Fair l) (op : Opens l) (c : Basis) (s : Bytewise) (
   h₁ = house-rules.drew h
 
   t₂ : Bytewise
-  t₂ = bytes.with-sent (six.grant_word l s a v w ∷ []) (reply_drawn grant₂) (reply_made grant₂) (bytes.with-home h₁ t₁)
+  t₂ = bytes.with_sent (six.grant_word l s a v w ∷ []) (reply_drawn grant₂) (reply_made grant₂) (bytes.with_home h₁ t₁)
 
   call₂ : step l c (brings House (six.login_word l s a v w)) t₁ ≡ t₂
   unfolding t₁ t₂
   call₂ =
       house-call l c t₁ (six.login_word l s a v w) (house.logs a (login_of b).inside) grant₂ h₁ read₂ logged₂
-      (login-after h a (login_of b).inside r.known r.is_open (o.boxes a).now-is (let d = r.house-at-work.drawn in omega arith) r.house-at-work.awake)
+      (login-after h a (login_of b).inside r.known r.is_open (o.boxes a).now_is (let d = r.house_at_work.drawn in omega arith) r.house_at_work.awake)
 
   -- 3: the letter of the house
   fit₁ : lock_fits T₁ ≡ true
@@ -326,7 +326,7 @@ module _ (l : Locks) (fair : Fair l) (op : Opens l) (c : Basis) (s : Bytewise) (
   pending₃ : pending_for b₁ OwnKey letter₁ ≡ Some (record { number = m₁; key = b.key; asks = 0; line = line })
   pending₃ =
       oldest-newest (ByNumber m₁) (record { number = m₁; key = b.key; asks = 0; line = line }) (take 15 b.logins)
-      (same_refl m₁.0) (others b.logins m₁.0 (o.boxes a).logins r.first-new)
+      (same_refl m₁.0) (others b.logins m₁.0 (o.boxes a).logins r.first_new)
 
   abbrev got₃ : Got
   got₃ = record { id = b.taken + 1; service = 0; until = until_of h }
@@ -370,15 +370,15 @@ module _ (l : Locks) (fair : Fair l) (op : Opens l) (c : Basis) (s : Bytewise) (
   fine₄ =
       record {
         known = r.known;
-        there = r.service-known;
+        there = r.service_known;
         is_open = r.is_open;
-        in-time = (o.boxes a).now-is;
-        is-good = omega arith;
-        is-new = r.house-digest;
-        room = r.house-at-work.room;
+        in_time = (o.boxes a).now_is;
+        is_good = omega arith;
+        is-new = r.house_digest;
+        room = r.house_at_work.room;
         drawn = home-drawn;
-        awake = r.house-at-work.awake;
-        writes = r.house-at-work.writes;
+        awake = r.house_at_work.awake;
+        writes = r.house_at_work.writes;
       }
 
   abbrev grant₄ : Reply
@@ -391,7 +391,7 @@ module _ (l : Locks) (fair : Fair l) (op : Opens l) (c : Basis) (s : Bytewise) (
   good₄ = subst (λ (z : Reply). GoodReply z) answered₄ (ask-good h₁ (six.house_ticket l s a v w).inside (six.house_asking l s a v w).inside digest₁ good₃.fits.1 rg.now rg.life)
 
   t₄ : Bytewise
-  t₄ = bytes.with-sent (six.serve_word l s a v w ∷ []) (reply_drawn grant₄) (reply_made grant₄) (bytes.with-home (house-rules.drew (house-rules.noted h₁ digest₁)) t₃)
+  t₄ = bytes.with_sent (six.serve_word l s a v w ∷ []) (reply_drawn grant₄) (reply_made grant₄) (bytes.with_home (house-rules.drew (house-rules.noted h₁ digest₁)) t₃)
 
   call₄ : step l c (brings House (six.house_word l s a v w)) t₃ ≡ t₄
   unfolding t₁ t₂ t₃ t₄
@@ -415,8 +415,8 @@ module _ (l : Locks) (fair : Fair l) (op : Opens l) (c : Basis) (s : Bytewise) (
   not_own : opened₅.0 ≡ 0 → ⊥
   not_own e =
       let f = opened-first l 2 b.key _ (letter_lock l (six.service_letter l s a v w)) (record { place = opened₅.0; key = k₁; inside = write_letter letter₂ }) opened₅.1 e in
-      let there = own-there c.own 0 a k₁.0 (o.accounts a r.known).there (ap (λ (z : Key). z.0) (sym (o.boxes a).key-is ∙ sym f)) in
-      let g = r.no-own-key in
+      let there = own-there c.own 0 a k₁.0 (o.accounts a r.known).there (ap (λ (z : Key). z.0) (sym (o.boxes a).key_is ∙ sym f)) in
+      let g = r.no_own_key in
       let q = there.1 in
       let z : ◌≡◌ {A = ℕ} 0 1 = cc in
       omega arith
@@ -445,7 +445,7 @@ module _ (l : Locks) (fair : Fair l) (op : Opens l) (c : Basis) (s : Bytewise) (
       (and_from (bytes_eq m₂.0 m₂.0) (eqb v v) (same_refl m₂.0) (eq-eqb v v refl)))
       (λ p m.
       and_right (eqb p.asks 0) _ (and_right (bytes_eq p.key.0 k₁.0) _ (and_left (bytes_eq p.number.0 m₂.0) (eqb p.line.service v)
-      (others b.askings m₂.0 (o.boxes a).askings r.second-new p m))))
+      (others b.askings m₂.0 (o.boxes a).askings r.second_new p m))))
 
   abbrev got₅ : Got
   got₅ = record { id = b.taken + 1 + 1; service = v; until = until_of h }
@@ -487,7 +487,7 @@ module _ (l : Locks) (fair : Fair l) (op : Opens l) (c : Basis) (s : Bytewise) (
   read₆ =
       reads-service l (own_of c.own v) (six.ask_word l s a v w) T₂ (asking_lock l (six.service_asking l s a v w)) (six.service_ticket l s a v w).inside asked₆
       (word-codec.back (frame.asking T₂ (asking_lock l (six.service_asking l s a v w))) (cond-both-true _ _ fit₂ (lock-fits l c fair 3 k₂.0 _ _ good₅.salt (long-asking (asked_of (six.service_asking l s a v w).inside) good₅.fits)), tt))
-      (opens-ticket l op (six.service_ticket l s a v w) (own_of c.own v) (sym (o.accounts v r.service-known).own) good₄.2 (ticket-codec.back _ good₄.0))
+      (opens-ticket l op (six.service_ticket l s a v w) (own_of c.own v) (sym (o.accounts v r.service_known).own) good₄.2 (ticket-codec.back _ good₄.0))
       (opens-asking l op (six.service_asking l s a v w) good₅)
 
   abbrev digest₂ : ℕ
@@ -498,13 +498,13 @@ module _ (l : Locks) (fair : Fair l) (op : Opens l) (c : Basis) (s : Bytewise) (
       record {
         somebody = reader-there;
         number_is = (o.sides v).number_is;
-        in-time = (o.boxes a).now-is ∙ sym (o.sides v).now-is;
-        is-good = let e = (o.sides v).now-is in omega arith;
+        in_time = (o.boxes a).now_is ∙ sym (o.sides v).now_is;
+        is_good = let e = (o.sides v).now_is in omega arith;
         is-new = r.digest;
-        room = r.at-work.room;
-        drawn = r.at-work.drawn;
-        awake = r.at-work.awake;
-        writes = r.at-work.writes;
+        room = r.at_work.room;
+        drawn = r.at_work.drawn;
+        awake = r.at_work.awake;
+        writes = r.at_work.writes;
       }
 
   abbrev done₆ : Answer
@@ -523,13 +523,13 @@ module _ (l : Locks) (fair : Fair l) (op : Opens l) (c : Basis) (s : Bytewise) (
   deed-told p q e =
       ap (λ (x : Answer). deed_told x p v (s.side v).side.now s.stolen) answered₆
       ∙ ap (λ (ws : Bytes). deed_at p (s.side v).side.now ws) (words_back (words_in w))
-      ∙ ap (λ (t : ℕ). deed_at p t (words_of w)) (o.sides v).now-is
+      ∙ ap (λ (t : ℕ). deed_at p t (words_of w)) (o.sides v).now_is
       ∙ ap (λ (i : ℕ). deed_at i h.side.now (words_of w)) e
 
   line-told : (p : ℕ) → line_told (wanted b v None w) (record { place = p; reader = a; service = v; what = words_of w; at = b.now }) ≡ six.wanted_line l s a v w p ∷ []
   line-told p =
       ap (λ (x : Told.Answer). line_told x (record { place = p; reader = a; service = v; what = words_of w; at = b.now })) wanted₁
-      ∙ ap (λ (t : ℕ). line_at t) (o.boxes a).now-is
+      ∙ ap (λ (t : ℕ). line_at t) (o.boxes a).now_is
     where
       line_at : ℕ → List Wanted
       line_at t = record { place = p; reader = a; service = v; what = words_of w; at = t } ∷ []

@@ -11,7 +11,7 @@ use Rattle.box_side.specs.Tickets.{boxed_by}
 use Rattle.byte_rows.proofs.Air.{gets-later, map-mem}
 use Rattle.byte_rows.specs.Premise.{Meets}
 use Rattle.byte_rows.specs.Row.{names_of}
-use Rattle.byte_rows.specs.System.{Basis, Bytewise, Call, answered, box_says, box_word, brings, closes, crashes, device, hands, key_name, opens, read_by_box, replied, sent_word, setting_of, steals, step, tells, told_by, wants, with-box}
+use Rattle.byte_rows.specs.System.{Basis, Bytewise, Call, answered, box_says, box_word, brings, closes, crashes, device, hands, key_name, opens, read_by_box, replied, sent_word, setting_of, steals, step, tells, told_by, wants, with_box}
 use Rattle.byte_rows.specs.Term.{Whole, air_of, frame_term, framed_term, lock_term, word_term}
 use Rattle.house_rules.specs.declared.reply.Reply.{Reply}
 use Rattle.house_rules.specs.declared.reply.Reply.TheVariants.{Granted, Refused as NotGranted}
@@ -271,7 +271,7 @@ module _ (l : Locks) (c : Basis) (g : Whole) where
 
     -- one box is changed, and nothing is sent
     pub box-changed : (act : Act) (a : ℕ) (x : Boxed Bytes) (y : Box) → Can C N (seen b air) act
-        → acts.step C N act (seen b air) ≡ acts.with-box a y (seen b air) → y ≡ blind x → HeldOk x → Goes b air act (with-box a x b)
+        → acts.step C N act (seen b air) ≡ acts.with_box a y (seen b air) → y ≡ blind x → HeldOk x → Goes b air act (with_box a x b)
     box-changed act a x y can same e held =
         record {
           can = can;

@@ -149,6 +149,6 @@ pub record CanHappen : Type 0 where
   pub is-closed : closed (run plain basis 10 happens).home.accounts 1 ≡ true
   pub stolen : (run plain basis 10 happens).stolen ≡ 3 ∷ []
   -- and before the line the reader was ready, so that what Served rests on can be met too
-  pub before-row : Row plain basis 10 before
-  pub opens-again : Opens plain
+  pub before_row : Row plain basis 10 before
+  pub opens_again : Opens plain
   pub ready : Ready plain basis (run plain basis 10 before) 1 2 words

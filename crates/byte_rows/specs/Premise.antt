@@ -134,7 +134,7 @@ module _ (l : Locks) (c : Basis) (g : Whole) where
 
   -- a service is not the house, and has an own key
   pub record HeardByService (s : Bytewise) (v : ℕ) (w : Bytes) : Type 0 where
-    pub a-service : v ≡ 0 → ⊥
+    pub a_service : v ≡ 0 → ⊥
     pub there : v < length c.own
     pub heard : Heard s w (tries_in (service_tries l (own_of c.own v)) (framed w))
 

@@ -127,7 +127,7 @@ module _ (l : Locks) (c : Basis) where
     name = name_of c.own g.draws;
     key_of = system.key_name c.own;
     apart = name-apart c.own g.draws;
-    of-own = own-named c.own g.draws;
+    of_own = own-named c.own g.draws;
   }
 
   -- the three keys of a reader and a service are not among those stolen

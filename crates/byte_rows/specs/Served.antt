@@ -158,17 +158,17 @@ module _ (l : Locks) (s : Bytewise) (a v : ℕ) (w : What) where
 pub record Ready (l : Locks) (c : Basis) (s : Bytewise) (a v : ℕ) (w : What) : Type 0 where
   pub known : unknown s.home.accounts a ≡ false
   pub is_open : closed s.home.accounts a ≡ false
-  pub service-known : unknown s.home.accounts v ≡ false
+  pub service_known : unknown s.home.accounts v ≡ false
   pub words : w.len ≤ 1024
-  pub house-at-work : HouseAtWork s.home
-  pub at-work : AtWork (s.side v)
+  pub house_at_work : HouseAtWork s.home
+  pub at_work : AtWork (s.side v)
   pub drawn : 96 ≤ length (s.box a).left
   pub lines : (s.box a).lines < 2 ^ 64 - 1
   pub tickets : (s.box a).taken + 1 < 2 ^ 64 - 1
-  pub first-new : draw_name s.used (number_of (s.box a).left).0 ≡ None
-  pub second-new : draw_name s.used (number_of (drop 32 (s.box a).left)).0 ≡ None
-  pub no-own-key : own_name c.own 0 (house_key l s a v w).0 ≡ None
-  pub house-digest : stands (digest_of l (house_key l s a v w) (number_of (drop 32 (s.box a).left))) (live_of s.home.side.now s.home.side.lag s.home.kept) ≡ false
+  pub first_new : draw_name s.used (number_of (s.box a).left).0 ≡ None
+  pub second_new : draw_name s.used (number_of (drop 32 (s.box a).left)).0 ≡ None
+  pub no_own_key : own_name c.own 0 (house_key l s a v w).0 ≡ None
+  pub house_digest : stands (digest_of l (house_key l s a v w) (number_of (drop 32 (s.box a).left))) (live_of s.home.side.now s.home.side.lag s.home.kept) ≡ false
   pub digest : stands (digest_of l (service_key l s a v w) (number_of (drop 32 (drop 32 (s.box a).left)))) (live_of (s.side v).side.now (s.side v).side.lag (s.side v).kept) ≡ false
   pub one_key : (k : Key) (x : Bytes) → Memᴰ k (letter_keys (box_then l s a v w)) → l.opens 2 k.0 (letter_lock l (service_letter l s a v w)) ≡ Some x → k ≡ house_key l s a v w
 

@@ -27,7 +27,7 @@ use Rattle.parts.specs.declared.word.Key.{Key}
 use Rattle.parts.specs.declared.word.What.{What}
 use Rattle.rows.specs.Name.{named, own_name, own_of}
 use Rattle.rows.specs.Setting.{Setting}
-use Rattle.rows.specs.System.{House, Reader, Service, Who, at, crashed_home, crashed_view, home-accounts, home-left, home-memory, home-side}
+use Rattle.rows.specs.System.{House, Reader, Service, Who, at, crashed_home, crashed_view, home_accounts, home_left, home_memory, home_side}
 use Rattle.rows.specs.Word.{reply_drawn, told_drawn}
 use Rattle.service_rules.specs.Service.{View, view}
 use Rattle.service_rules.specs.Side.{on_tick}
@@ -121,22 +121,22 @@ abbrev pub box_word : Option box.Sent → List Bytes
 box_word None = []
 box_word (Some x) = x.word ∷ []
 
-abbrev pub with-home : Home → Bytewise → Bytewise
-with-home h s = record { home = h; side = s.side; box = s.box; words = s.words; used = s.used; made = s.made; stolen = s.stolen }
+abbrev pub with_home : Home → Bytewise → Bytewise
+with_home h s = record { home = h; side = s.side; box = s.box; words = s.words; used = s.used; made = s.made; stolen = s.stolen }
 
 abbrev pub with-side : ℕ → View → Bytewise → Bytewise
 with-side v w s = record { home = s.home; side = at v w s.side; box = s.box; words = s.words; used = s.used; made = s.made; stolen = s.stolen }
 
-abbrev pub with-box : ℕ → Boxed Bytes → Bytewise → Bytewise
-with-box a b s = record { home = s.home; side = s.side; box = at a b s.box; words = s.words; used = s.used; made = s.made; stolen = s.stolen }
+abbrev pub with_box : ℕ → Boxed Bytes → Bytewise → Bytewise
+with_box a b s = record { home = s.home; side = s.side; box = at a b s.box; words = s.words; used = s.used; made = s.made; stolen = s.stolen }
 
 -- these words are sent, these draws used, and these locks made
-abbrev pub with-sent : List Bytes → List Bytes → List Made → Bytewise → Bytewise
-with-sent ws ds ms s = record { home = s.home; side = s.side; box = s.box; words = ws ++ s.words; used = ds ++ s.used; made = ms ++ s.made; stolen = s.stolen }
+abbrev pub with_sent : List Bytes → List Bytes → List Made → Bytewise → Bytewise
+with_sent ws ds ms s = record { home = s.home; side = s.side; box = s.box; words = ws ++ s.words; used = ds ++ s.used; made = ms ++ s.made; stolen = s.stolen }
 
 -- a box with other drawn bytes
-abbrev pub box-left : Bytes → Boxed Bytes → Boxed Bytes
-box-left bs b = record { number = b.number; key = b.key; now = b.now; lines = b.lines; taken = b.taken; logins = b.logins; tickets = b.tickets; askings = b.askings; left = bs }
+abbrev pub box_left : Bytes → Boxed Bytes → Boxed Bytes
+box_left bs b = record { number = b.number; key = b.key; now = b.now; lines = b.lines; taken = b.taken; logins = b.logins; tickets = b.tickets; askings = b.askings; left = bs }
 
 module _ (l : Locks) (c : Basis) where
   -- what the house, a service and a box make of a word
@@ -161,12 +161,12 @@ module _ (l : Locks) (c : Basis) where
 
   -- a box that answered so goes on, sends and draws
   abbrev pub box_says : ℕ → Boxed Bytes → Told.Answer → Bytewise → Bytewise
-  box_says a b r s = with-sent (box_word (box.sent_by l b r)) (told_drawn r) (told_made r) (with-box a b s)
+  box_says a b r s = with_sent (box_word (box.sent_by l b r)) (told_drawn r) (told_made r) (with_box a b s)
 
   -- what a call leaves; what is refused or can't be read leaves all as it was, but for the refusal that is sent
   abbrev pub step : Call → Bytewise → Bytewise
   step (tells to) s = record {
-    home = home-side (on_tick s.home.side to) s.home;
+    home = home_side (on_tick s.home.side to) s.home;
     side = λ v. view (on_tick (s.side v).side to) (s.side v).kept (s.side v).junk (s.side v).writes (s.side v).left;
     box = λ a. box_on_tick (s.box a) to;
     words = s.words;
@@ -174,10 +174,10 @@ module _ (l : Locks) (c : Basis) where
     made = s.made;
     stolen = s.stolen;
   }
-  step (hands House bs) s = with-home (home-left (s.home.left ++ bs) s.home) s
+  step (hands House bs) s = with_home (home_left (s.home.left ++ bs) s.home) s
   step (hands (Service v) bs) s =
       with-side v (view (s.side v).side (s.side v).kept (s.side v).junk (s.side v).writes ((s.side v).left ++ bs)) s
-  step (hands (Reader a) bs) s = with-box a (box-left ((s.box a).left ++ bs) (s.box a)) s
+  step (hands (Reader a) bs) s = with_box a (box_left ((s.box a).left ++ bs) (s.box a)) s
   step (steals m) s = record {
     home = s.home;
     side = s.side;
@@ -187,22 +187,22 @@ module _ (l : Locks) (c : Basis) where
     made = s.made;
     stolen = key_name c.own m ∷ s.stolen;
   }
-  step (opens m k w) s = with-home (home-accounts (opened_after s.home.accounts m k w) s.home) s
-  step (closes m w) s = with-home (home-accounts (shut_after s.home.accounts m w) s.home) s
+  step (opens m k w) s = with_home (home_accounts (opened_after s.home.accounts m k w) s.home) s
+  step (closes m w) s = with_home (home_accounts (shut_after s.home.accounts m w) s.home) s
   step (wants a v by w) s = box_says a (wanted_after (s.box a) v by w) (wanted (s.box a) v by w) s
   step (brings House w) s =
-      with-sent (sent_word (house.sent_by l (replied s w))) (reply_drawn (replied s w)) (reply_made (replied s w))
-      (with-home (house.after_word l s.home (read_by_house s w)) s)
+      with_sent (sent_word (house.sent_by l (replied s w))) (reply_drawn (replied s w)) (reply_made (replied s w))
+      (with_home (house.after_word l s.home (read_by_house s w)) s)
   step (brings (Service v) w) s =
-      with-sent (sent_word (service.sent_by l (answered s v w))) [] (answer_made (answered s v w))
+      with_sent (sent_word (service.sent_by l (answered s v w))) [] (answer_made (answered s v w))
       (with-side v (service.after_word l (s.side v) (read_by_service s v w)) s)
   step (brings (Reader a) w) s = box_says a (box.after_word (s.box a) (read_by_box s a w)) (told_by s a w) s
-  step (device House w) s = with-home (home-memory s.home.side s.home.kept s.home.junk w s.home) s
+  step (device House w) s = with_home (home_memory s.home.side s.home.kept s.home.junk w s.home) s
   step (device (Service v) w) s = with-side v (view (s.side v).side (s.side v).kept (s.side v).junk w (s.side v).left) s
   step (device (Reader a) w) s = s
-  step (crashes House cut) s = with-home (crashed_home cut s.home) s
+  step (crashes House cut) s = with_home (crashed_home cut s.home) s
   step (crashes (Service v) cut) s = with-side v (crashed_view cut (s.side v)) s
-  step (crashes (Reader a) cut) s = with-box a (fresh (s.box a).number (s.box a).now (s.box a).key (s.box a).left) s
+  step (crashes (Reader a) cut) s = with_box a (fresh (s.box a).number (s.box a).now (s.box a).key (s.box a).left) s
 
   -- the first start, at a tick: no account, nothing remembered, nothing under way
   abbrev pub first : ℕ → Bytewise

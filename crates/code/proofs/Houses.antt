@@ -2,7 +2,7 @@
 use Rattle.std.proofs.Common.{◌≡◌, ℕ, ◌<◌, Bool, true, false, cond, not, ◌&&◌, ◌||◌, eqb, ltb, List, length, Some, None, Option, sym, refl, ap, ◌∙◌, arith}
 use Rattle.code.proofs.Serves.{clear, not'}
 use Rattle.code.specs.Code.{MayGrant, MayLogIn}
-use Rattle.code.specs.Sides.{HouseStands, KeptHome, home_of, home_view, with-accounts}
+use Rattle.code.specs.Sides.{HouseStands, KeptHome, home_of, home_view, with_accounts}
 use Rattle.house_rules.proofs.Decided.{told}
 use Rattle.house_rules.specs.Account.{account_of, closed, is_closed, unknown}
 use Rattle.house_rules.specs.Change.{changed, closed_of, shut, shut_after, shut_from}
@@ -200,19 +200,19 @@ shut-others xs a b w n = by (shut xs a w)
 
 pub house-so : HouseStands
 house-so lag life k = record {
-  lets-so = λ a l s m. ap (λ (o : Option Fault). unless o (giving (until_of (view s)) s.left (login_given (view s) a l)) Refused) (login-none (view s) a l m);
-  lets-only = λ a l s e. login-all (view s) a l (login-told (view s) a l ∙ e);
-  let-in-so = λ a l s e. let x = ap (λ (o : Option Fault). unless o (drew (view s)) (λ _. view s)) (login-told (view s) a l ∙ e) in
+  lets_so = λ a l s m. ap (λ (o : Option Fault). unless o (giving (until_of (view s)) s.left (login_given (view s) a l)) Refused) (login-none (view s) a l m);
+  lets_only = λ a l s e. login-all (view s) a l (login-told (view s) a l ∙ e);
+  let_in_so = λ a l s e. let x = ap (λ (o : Option Fault). unless o (drew (view s)) (λ _. view s)) (login-told (view s) a l ∙ e) in
       (ap (λ (y : Home). y.left) x, ap (λ (y : Home). y.kept) x, ap (λ (y : Home). y.accounts) x);
-  let-in-not = λ a l f s e. ap (λ (o : Option Fault). home_of (unless o (drew (view s)) (λ _. view s))) (login-told (view s) a l ∙ e);
-  grants-so = λ w t q d s m. answers (home_view lag life k w s) t q d (may_read (home_view lag life k w s) t q d m);
-  grants-only = λ w t q d s e. let r = reads (home_view lag life k w s) t q d e in all-holds (home_view lag life k w s) t q d r.read r.clear;
-  after-so = λ w t q d s m. let x = leaves (home_view lag life k w s) t q d (may_read (home_view lag life k w s) t q d m) in
+  let_in_not = λ a l f s e. ap (λ (o : Option Fault). home_of (unless o (drew (view s)) (λ _. view s))) (login-told (view s) a l ∙ e);
+  grants_so = λ w t q d s m. answers (home_view lag life k w s) t q d (may_read (home_view lag life k w s) t q d m);
+  grants_only = λ w t q d s e. let r = reads (home_view lag life k w s) t q d e in all-holds (home_view lag life k w s) t q d r.read r.clear;
+  after_so = λ w t q d s m. let x = leaves (home_view lag life k w s) t q d (may_read (home_view lag life k w s) t q d m) in
       (ap (λ (y : Home). y.kept) x, ap (λ (y : Home). y.left) x, ap (λ (y : Home). y.accounts) x);
-  refused-so = λ w t q d f s e. ap (λ (y : Home). home_of y) (stays (home_view lag life k w s) t q d f e);
-  closes-not = λ w a f s e. ap (λ (c : Changed). with-accounts (changed s.accounts a (closed_of (account_of s.accounts a)) c) s) e;
-  closes-so = λ w a s l e. shut-closed s.accounts a w l e;
-  others-so = λ w a b s n. shut-others s.accounts a b w n;
+  refused_so = λ w t q d f s e. ap (λ (y : Home). home_of y) (stays (home_view lag life k w s) t q d f e);
+  closes_not = λ w a f s e. ap (λ (c : Changed). with_accounts (changed s.accounts a (closed_of (account_of s.accounts a)) c) s) e;
+  closes_so = λ w a s l e. shut-closed s.accounts a w l e;
+  others_so = λ w a b s n. shut-others s.accounts a b w n;
 }
   where
     view : KeptHome → Home

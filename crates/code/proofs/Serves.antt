@@ -79,12 +79,12 @@ waits-until false until later = le-ltb later 0 (omega arith)
 
 pub service-so : ServiceStands
 service-so lag n = record {
-  does-so = λ w t a d s m. ap (λ (o : Option Fault). unless o (Done (deed_of t a) (receipt_of (kept_view lag n w s) t a)) Refused) (none-wrong (kept_view lag n w s) t a d m);
+  does_so = λ w t a d s m. ap (λ (o : Option Fault). unless o (Done (deed_of t a) (receipt_of (kept_view lag n w s) t a)) Refused) (none-wrong (kept_view lag n w s) t a d m);
   only_so = λ w t a d s e. all-holds (kept_view lag n w s) t a d (sym (told (kept_view lag n w s) t a (first_fault (conditions (kept_view lag n w s) t a d))) ∙ e);
-  lowest-so = λ w t a d s. lowest-first (conditions (kept_view lag n w s) t a d) _ (told (kept_view lag n w s) t a (first_fault (conditions (kept_view lag n w s) t a d))) refl;
-  after-so = λ w t a d s e. done w t a d s (sym (told (kept_view lag n w s) t a (first_fault (conditions (kept_view lag n w s) t a d))) ∙ e);
-  refused-so = λ w t a d f s e. ap (λ (o : Option Fault). kept_of (unless o (done_by (kept_view lag n w s) d) (λ _. kept_view lag n w s))) (sym (told (kept_view lag n w s) t a (first_fault (conditions (kept_view lag n w s) t a d))) ∙ e);
-  falls-so = λ junk at s e u. let k = falls lag n junk at s e u in
+  lowest_so = λ w t a d s. lowest-first (conditions (kept_view lag n w s) t a d) _ (told (kept_view lag n w s) t a (first_fault (conditions (kept_view lag n w s) t a d))) refl;
+  after_so = λ w t a d s e. done w t a d s (sym (told (kept_view lag n w s) t a (first_fault (conditions (kept_view lag n w s) t a d))) ∙ e);
+  refused_so = λ w t a d f s e. ap (λ (o : Option Fault). kept_of (unless o (done_by (kept_view lag n w s) d) (λ _. kept_view lag n w s))) (sym (told (kept_view lag n w s) t a (first_fault (conditions (kept_view lag n w s) t a d))) ∙ e);
+  falls_so = λ junk at s e u. let k = falls lag n junk at s e u in
       (ap (λ (x : Kept). x.kept) k, ap (λ (x : Kept). x.now) k, λ later. ap (λ (x : Kept). ltb later x.wake) k ∙ waits-until (junk || s.junk) (at + lag + 1) later);
 }
   where

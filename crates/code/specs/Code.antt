@@ -1,7 +1,7 @@
 -- What the code must be, to be the system of the model: what it answers and sends at each event, and what it leaves.
 -- Assumes nothing.
 --
--- MayDo, MayLogIn, MayGrant   all that has to hold for a deed, a login, an asking of the house
+-- MayDo, MayLogIn, MayGrant  all that has to hold for a deed, a login, an asking of the house
 -- Service, ServiceSo         what a service has, and what has to hold of it
 -- House, HouseSo             what the house has, and what has to hold of it
 use Rattle.std.specs.Prelude.{◌≡◌, ℕ, ◌+◌, ◌<◌, ◌≤◌, Bool, true, false, ◌&&◌, ◌||◌, List, length, drop, Some, None, ◌≢◌, nat_eq, nat_lt}
@@ -84,25 +84,25 @@ pub record Service : Type 1 where
 -- what has to hold of it
 pub record ServiceSo (lag number : ℕ) (o : Service) : Type 0 where
   -- where all of it holds it is done, and the receipt goes out under the ticket's key
-  pub does-so : (w : Bool) (t : Ticket) (a : Asking) (d : ℕ) (s : o.State) → MayDo lag number (o.now s) (o.waits (o.now s) s) w (o.kept s) (o.left s) t a d →
+  pub does_so : (w : Bool) (t : Ticket) (a : Asking) (d : ℕ) (s : o.State) → MayDo lag number (o.now s) (o.waits (o.now s) s) w (o.kept s) (o.left s) t a d →
       o.answer w t a d s ≡ Done (deed_of t a) (record { key = t.key; salt = salt_of (o.left s); inside = record { number = a.number } })
   -- and only there
   pub only_so : (w : Bool) (t : Ticket) (a : Asking) (d : ℕ) (s : o.State) → refusal (o.answer w t a d s) ≡ None →
       MayDo lag number (o.now s) (o.waits (o.now s) s) w (o.kept s) (o.left s) t a d
   -- of what is wrong the lowest number is told
-  pub lowest-so : (w : Bool) (t : Ticket) (a : Asking) (d : ℕ) (s : o.State) → Lowest (o.table w t a d s) (refusal (o.answer w t a d s))
+  pub lowest_so : (w : Bool) (t : Ticket) (a : Asking) (d : ℕ) (s : o.State) → Lowest (o.table w t a d s) (refusal (o.answer w t a d s))
   -- what is done is remembered, what is old is forgotten, 16 drawn bytes are used, and nothing else changes
-  pub after-so : (w : Bool) (t : Ticket) (a : Asking) (d : ℕ) (s : o.State) → refusal (o.answer w t a d s) ≡ None →
+  pub after_so : (w : Bool) (t : Ticket) (a : Asking) (d : ℕ) (s : o.State) → refusal (o.answer w t a d s) ≡ None →
       (o.kept (o.after w t a d s) ≡ recorded (o.now s) lag d (o.kept s)) × (o.left (o.after w t a d s) ≡ drop 16 (o.left s))
       × (o.now (o.after w t a d s) ≡ o.now s) × ((at : ℕ) → o.waits at (o.after w t a d s) ≡ o.waits at s)
   -- a refused one changes nothing
-  pub refused-so : (w : Bool) (t : Ticket) (a : Asking) (d : ℕ) (f : Fault) (s : o.State) → refusal (o.answer w t a d s) ≡ Some f → o.after w t a d s ≡ s
+  pub refused_so : (w : Bool) (t : Ticket) (a : Asking) (d : ℕ) (f : Fault) (s : o.State) → refusal (o.answer w t a d s) ≡ Some f → o.after w t a d s ≡ s
   -- a fall keeps what was written whole; it waits for lag + 1 ticks if something is junk, and only then
-  pub falls-so : (junk : Bool) (at : ℕ) (s : o.State) → nobody number ≡ false → unfit lag at (o.kept s) ≡ false →
+  pub falls_so : (junk : Bool) (at : ℕ) (s : o.State) → nobody number ≡ false → unfit lag at (o.kept s) ≡ false →
       (o.kept (o.falls junk at s) ≡ o.kept s) × (o.now (o.falls junk at s) ≡ at)
       × ((later : ℕ) → o.waits later (o.falls junk at s) ≡ ((junk || o.spoiled s) && nat_lt later (at + lag + 1)))
 
--- the house: lets and let-in at a login, answer and after at an asking, closes and closes-to at a closing
+-- the house: lets and let_in at a login, answer and after at an asking, closes and closes_to at a closing
 pub record House : Type 1 where
   pub State : Type 0
   pub now : State → ℕ
@@ -111,32 +111,32 @@ pub record House : Type 1 where
   pub left : State → List ℕ
   pub waits : State → Bool
   pub lets : ℕ → Login → State → Reply
-  pub let-in : ℕ → Login → State → State
+  pub let_in : ℕ → Login → State → State
   pub answer : (writes : Bool) → Ticket → Asking → (digest : ℕ) → State → Reply
   pub after : (writes : Bool) → Ticket → Asking → (digest : ℕ) → State → State
   pub closes : (writes : Bool) → ℕ → State → Changed
-  pub closes-to : (writes : Bool) → ℕ → State → State
+  pub closes_to : (writes : Bool) → ℕ → State → State
 
 -- what has to hold of it
 pub record HouseSo (lag life : ℕ) (own : Key) (o : House) : Type 0 where
   -- a ticket for the house under its own key, a letter under the reader's, until one life from now
-  pub lets-so : (a : ℕ) (l : Login) (s : o.State) → MayLogIn lag (o.now s) (o.waits s) (o.accounts s) (o.left s) a l →
+  pub lets_so : (a : ℕ) (l : Login) (s : o.State) → MayLogIn lag (o.now s) (o.waits s) (o.accounts s) (o.left s) a l →
       o.lets a l s ≡ giving (o.now s + life) (o.left s) (record { service = 0; reader = a; number = l.number; asked = l.tick; own = own; under = own_key (o.accounts s) a })
-  pub lets-only : (a : ℕ) (l : Login) (s : o.State) → denial (o.lets a l s) ≡ None → MayLogIn lag (o.now s) (o.waits s) (o.accounts s) (o.left s) a l
+  pub lets_only : (a : ℕ) (l : Login) (s : o.State) → denial (o.lets a l s) ≡ None → MayLogIn lag (o.now s) (o.waits s) (o.accounts s) (o.left s) a l
   -- a login is not remembered: 64 drawn bytes are used, and nothing else changes
-  pub let-in-so : (a : ℕ) (l : Login) (s : o.State) → denial (o.lets a l s) ≡ None →
-      (o.left (o.let-in a l s) ≡ drop 64 (o.left s)) × (o.kept (o.let-in a l s) ≡ o.kept s) × (o.accounts (o.let-in a l s) ≡ o.accounts s)
-  pub let-in-not : (a : ℕ) (l : Login) (f : Fault) (s : o.State) → denial (o.lets a l s) ≡ Some f → o.let-in a l s ≡ s
+  pub let_in_so : (a : ℕ) (l : Login) (s : o.State) → denial (o.lets a l s) ≡ None →
+      (o.left (o.let_in a l s) ≡ drop 64 (o.left s)) × (o.kept (o.let_in a l s) ≡ o.kept s) × (o.accounts (o.let_in a l s) ≡ o.accounts s)
+  pub let_in_not : (a : ℕ) (l : Login) (f : Fault) (s : o.State) → denial (o.lets a l s) ≡ Some f → o.let_in a l s ≡ s
   -- a ticket for the service under its own key, a letter under the ticket's
-  pub grants-so : (w : Bool) (t : Ticket) (q : Asking) (d : ℕ) (s : o.State) → MayGrant lag (o.now s) (o.waits s) w (o.accounts s) (o.kept s) (o.left s) t q d →
+  pub grants_so : (w : Bool) (t : Ticket) (q : Asking) (d : ℕ) (s : o.State) → MayGrant lag (o.now s) (o.waits s) w (o.accounts s) (o.kept s) (o.left s) t q d →
       o.answer w t q d s ≡ giving (o.now s + life) (o.left s) (record { service = wanted q; reader = t.reader; number = q.number; asked = q.tick; own = own_key (o.accounts s) (wanted q); under = t.key })
-  pub grants-only : (w : Bool) (t : Ticket) (q : Asking) (d : ℕ) (s : o.State) → denial (o.answer w t q d s) ≡ None → MayGrant lag (o.now s) (o.waits s) w (o.accounts s) (o.kept s) (o.left s) t q d
+  pub grants_only : (w : Bool) (t : Ticket) (q : Asking) (d : ℕ) (s : o.State) → denial (o.answer w t q d s) ≡ None → MayGrant lag (o.now s) (o.waits s) w (o.accounts s) (o.kept s) (o.left s) t q d
   -- what is granted is remembered, what is old is forgotten, and 64 drawn bytes are used
-  pub after-so : (w : Bool) (t : Ticket) (q : Asking) (d : ℕ) (s : o.State) → MayGrant lag (o.now s) (o.waits s) w (o.accounts s) (o.kept s) (o.left s) t q d →
+  pub after_so : (w : Bool) (t : Ticket) (q : Asking) (d : ℕ) (s : o.State) → MayGrant lag (o.now s) (o.waits s) w (o.accounts s) (o.kept s) (o.left s) t q d →
       (o.kept (o.after w t q d s) ≡ recorded (o.now s) lag d (o.kept s)) × (o.left (o.after w t q d s) ≡ drop 64 (o.left s)) × (o.accounts (o.after w t q d s) ≡ o.accounts s)
-  pub refused-so : (w : Bool) (t : Ticket) (q : Asking) (d : ℕ) (f : Fault) (s : o.State) → denial (o.answer w t q d s) ≡ Some f → o.after w t q d s ≡ s
+  pub refused_so : (w : Bool) (t : Ticket) (q : Asking) (d : ℕ) (f : Fault) (s : o.State) → denial (o.answer w t q d s) ≡ Some f → o.after w t q d s ≡ s
   -- a closing can fail, and then nothing changes
-  pub closes-not : (w : Bool) (a : ℕ) (f : Fault) (s : o.State) → o.closes w a s ≡ Unchanged f → o.closes-to w a s ≡ s
+  pub closes_not : (w : Bool) (a : ℕ) (f : Fault) (s : o.State) → o.closes w a s ≡ Unchanged f → o.closes_to w a s ≡ s
   -- one that is answered leaves the account closed, and no other account changes
-  pub closes-so : (w : Bool) (a : ℕ) (s : o.State) → a < length (o.accounts s) → o.closes w a s ≡ Changes → closed (o.accounts (o.closes-to w a s)) a ≡ true
-  pub others-so : (w : Bool) (a b : ℕ) (s : o.State) → (b ≢ a) → account_of (o.accounts (o.closes-to w a s)) b ≡ account_of (o.accounts s) b
+  pub closes_so : (w : Bool) (a : ℕ) (s : o.State) → a < length (o.accounts s) → o.closes w a s ≡ Changes → closed (o.accounts (o.closes_to w a s)) a ≡ true
+  pub others_so : (w : Bool) (a b : ℕ) (s : o.State) → (b ≢ a) → account_of (o.accounts (o.closes_to w a s)) b ≡ account_of (o.accounts s) b

@@ -1,7 +1,7 @@
 -- The decisions as the records of what the code must be. Assumes nothing.
 --
--- Kept, kept_view        a service without its device; the view of it that the contracts have
--- KeptHome, home_view   the house likewise
+-- Kept, kept_view      a service without its device; the view of it that the contracts have
+-- KeptHome, home_view  the house likewise
 -- ServiceStands        the definitions that the contracts of a service name are such a service
 -- HouseStands          and those of the house such a house
 use Rattle.std.specs.Prelude.{ℕ, Bool, false, ◌||◌, List, Ok, Err, Result, nat_lt}
@@ -83,8 +83,8 @@ home_view lag life k w s = record {
 abbrev pub home_of : Home → KeptHome
 home_of h = record { now = h.side.now; wake = h.side.wake; accounts = h.accounts; kept = h.kept; junk = h.junk; left = h.left }
 
-abbrev pub with-accounts : List Account → KeptHome → KeptHome
-with-accounts xs s = record { now = s.now; wake = s.wake; accounts = xs; kept = s.kept; junk = s.junk; left = s.left }
+abbrev pub with_accounts : List Account → KeptHome → KeptHome
+with_accounts xs s = record { now = s.now; wake = s.wake; accounts = xs; kept = s.kept; junk = s.junk; left = s.left }
 
 -- the house, by the definitions that its contracts name; a login needs no device
 abbrev pub house : (lag life : ℕ) → Key → House
@@ -96,11 +96,11 @@ house lag life k = record {
   left = λ s. s.left;
   waits = λ s. nat_lt s.now s.wake;
   lets = λ a l s. logged_in (home_view lag life k false s) a l;
-  let-in = λ a l s. home_of (login_after (home_view lag life k false s) a l);
+  let_in = λ a l s. home_of (login_after (home_view lag life k false s) a l);
   answer = λ w t q d s. grants (home_view lag life k w s) t q d;
   after = λ w t q d s. home_of (granted (home_view lag life k w s) t q d);
   closes = λ w a s. shut s.accounts a w;
-  closes-to = λ w a s. with-accounts (shut_after s.accounts a w) s;
+  closes_to = λ w a s. with_accounts (shut_after s.accounts a w) s;
 }
 
 abbrev pub HouseStands : Type 0

@@ -1,6 +1,6 @@
 -- The five words: read and written are each other's inverse, and none is the front of another.
 use Rattle.std.proofs.Common.{◌≡◌, ℕ, ◌+◌, ◌<◌, ◌≤◌, Bool, true, false, cond, eqb, leb, ◌⊎◌, List, [], ◌∷◌, ◌++◌, length, take, drop, Some, None, Ok, Err, Option, sym, refl, ap, ◌∙◌, subst, inl, inr, arith}
-use Rattle.std.specs.Option.{option_map, ok_or as okOr}
+use Rattle.std.specs.Option.{option_map, ok_or as ok_or_of}
 use Rattle.parts.specs.Fault.{class_number}
 use Rattle.parts.specs.declared.fault.Class.{Class}
 use Rattle.parts.specs.declared.fault.Class.TheVariants.{NotReadable, NotNow, NotYou}
@@ -240,14 +240,14 @@ frame-longer kind body more frame b (a-receipt k e) = ap (λ n. frame_from n (bo
 frame-longer kind body more frame b (a-refusal k e) = ap (λ n. frame_from n (body ++ (b ∷ more))) k ∙ refusal-longer body more frame b e
 
 -- an answer that is Ok came from Some
-ok_or : {X : Type 0} (o : Option X) (f : Fault) (x : X) → okOr o f ≡ Ok x → o ≡ Some x
+ok_or : {X : Type 0} (o : Option X) (f : Fault) (x : X) → ok_or_of o f ≡ Ok x → o ≡ Some x
 ok_or None f x e = let z : ◌≡◌ {A = ℕ} 0 1 = cc in absurd (omega arith)
 ok_or (Some y) f x e = cc
 
 pub word-longer : WordLonger
 word-longer [] more frame b e = let z : ◌≡◌ {A = ℕ} 0 1 = cc in absurd (omega arith)
 word-longer (kind ∷ body) more frame b e =
-    ap (λ o. okOr o Malformed) (frame-longer kind body more frame b (found kind body frame (ok_or (frame_from kind body) Malformed frame e)))
+    ap (λ o. ok_or_of o Malformed) (frame-longer kind body more frame b (found kind body frame (ok_or (frame_from kind body) Malformed frame e)))
 
 -- an answer is a word or Malformed
 word-or : (bs : List ℕ) → ((frame : Frame) × (framed bs ≡ Ok frame)) ⊎ (framed bs ≡ Err Malformed)
@@ -255,8 +255,8 @@ word-or [] = inr refl
 word-or (kind ∷ body) = go (frame_from kind body) refl
   where
     go : (o : Option Frame) → frame_from kind body ≡ o → ((frame : Frame) × (framed (kind ∷ body) ≡ Ok frame)) ⊎ (framed (kind ∷ body) ≡ Err Malformed)
-    go None e = inr (ap (λ x. okOr x Malformed) e)
-    go (Some frame) e = inl (frame, ap (λ x. okOr x Malformed) e)
+    go None e = inr (ap (λ x. ok_or_of x Malformed) e)
+    go (Some frame) e = inl (frame, ap (λ x. ok_or_of x Malformed) e)
 
 pub word_cut : WordCut
 word_cut bs frame n e h = go (word-or (take n bs))
@@ -284,15 +284,15 @@ class_back NotYou = refl
 word_back : (frame : Frame) → WordFits frame → framed (write_word frame) ≡ Ok frame
 word_back (login reader lock) f =
     let n : number (bytes_of 2 reader) ≡ reader = number-bytes_of 2 reader f.1 in
-    ap (λ o. okOr (option_map (login (number (bytes_of 2 reader))) o) Malformed) (alone-lock_bytes lock f.0)
+    ap (λ o. ok_or_of (option_map (login (number (bytes_of 2 reader))) o) Malformed) (alone-lock_bytes lock f.0)
     ∙ ap (λ r. Ok (login r lock)) n
 word_back (ticket_and_letter ticket letter) f =
     let fs = both (lock_fits ticket) (lock_fits letter) f.0 in
-    ap (λ o. okOr (option_map (λ p. ticket_and_letter p.0 p.1) o) Malformed) (paired-lock_bytes ticket letter fs.0 fs.1)
+    ap (λ o. ok_or_of (option_map (λ p. ticket_and_letter p.0 p.1) o) Malformed) (paired-lock_bytes ticket letter fs.0 fs.1)
 word_back (asking ticket lock) f =
     let fs = both (lock_fits ticket) (lock_fits lock) f.0 in
-    ap (λ o. okOr (option_map (λ p. asking p.0 p.1) o) Malformed) (paired-lock_bytes ticket lock fs.0 fs.1)
-word_back (receipt lock) f = ap (λ o. okOr (option_map receipt o) Malformed) (alone-lock_bytes lock f.0)
+    ap (λ o. ok_or_of (option_map (λ p. asking p.0 p.1) o) Malformed) (paired-lock_bytes ticket lock fs.0 fs.1)
+word_back (receipt lock) f = ap (λ o. ok_or_of (option_map receipt o) Malformed) (alone-lock_bytes lock f.0)
 word_back (refusal class) f = class_back class
 
 -- what is read is what is written

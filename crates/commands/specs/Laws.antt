@@ -1,7 +1,7 @@
 -- What holds of the lines that are read. Assumes nothing.
 --   x_text x     how x is written
 --   line_text l  how a line is written that says l
---   Plain l     l says something, in numbers below the one that stands for all larger
+--   Plain l      l says something, in numbers below the one that stands for all larger
 use Rattle.std.specs.Prelude.{◌≡◌, ℕ, ◌-◌, ◌^◌, ◌<◌, Bool, true, false, List, [], ◌∷◌, ◌++◌, Some, None, codes, decimal, Option}
 use Rattle.seal.specs.Kind.{number_of}
 use Rattle.seal.specs.declared.kind.Kind.{Kind}

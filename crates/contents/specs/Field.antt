@@ -1,5 +1,5 @@
 -- Numbers and parts of a row of bytes. Assumes nothing.
---   bytes_of w n   the w bytes of the number n, high byte first
+--   bytes_of w n  the w bytes of the number n, high byte first
 --   number bs     the number that the bytes bs write, high byte first
 --   part at n bs  the n bytes of bs from the place `at`
 --   Bytes bs      each of bs is below 256

@@ -1,8 +1,8 @@
 -- What stands inside the five kinds of locks, in bytes: how it is read, and how it is written. Assumes nothing.
 --   is_inside kind n bs  n bytes, of which the first says the kind
---   readX bs            the X that bs are, or the fault
---   writeX x            the bytes of x
---   XFits x             each number fits its field, each row of bytes has its length
+--   readX bs             the X that bs are, or the fault
+--   writeX x             the bytes of x
+--   XFits x              each number fits its field, each row of bytes has its length
 use Rattle.std.specs.Prelude.{ℕ, ◌+◌, Bool, false, cond, List, [], ◌∷◌, ◌++◌, length, drop, Some, None, Ok, Err, Option, Result, ◌==◌, nat_le}
 use Rattle.parts.specs.declared.fault.Fault.{Fault}
 use Rattle.parts.specs.declared.fault.Fault.TheVariants.{BadInside}

@@ -1,7 +1,7 @@
 -- Entries in bytes: how many (2), then each as digest (16) and tick (8). Assumes nothing. Vocabulary:
 --   packed es        the bytes of entries
---   measured_of bs    how many bytes the entries at the front of bs take, none if they are more than 8,192
---   count_in p        how many entries some bytes hold
+--   measured_of bs   how many bytes the entries at the front of bs take, none if they are more than 8,192
+--   count_in p       how many entries some bytes hold
 --   unpacked p       the entries that they hold
 --   Fits e           the numbers of an entry fit their fields
 use Rattle.std.specs.Prelude.{ℕ, zero, suc, ◌+◌, ◌*◌, ◌^◌, ◌<◌, Bool, cond, ◌&&◌, List, [], ◌∷◌, ◌++◌, length, take, Some, None, Option, nat_le, nat_lt}

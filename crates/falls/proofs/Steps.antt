@@ -4,7 +4,7 @@ use Rattle.entries.specs.Bytes.{Fits, measured_of, packed, unpacked}
 use Rattle.falls.proofs.Among.{in-last, in-live, in-recorded, in-stands, live-before, live-from-lately, live-le}
 use Rattle.falls.proofs.Making.{make-so, new-junk}
 use Rattle.falls.proofs.Reading.{fitting, steady, unpacked-packed}
-use Rattle.falls.specs.Falls.{In, Left, LeftAt, LeftMaking, Remembered, Run, Starting, State, did, did-not, fell, first, ticked}
+use Rattle.falls.specs.Falls.{In, Left, LeftAt, LeftMaking, Remembered, Run, Starting, State, did, did_not, fell, first, ticked}
 use Rattle.halves.proofs.Finding.{failing, starting, telling, writing}
 use Rattle.halves.specs.Blocks.{Blocks, block, other, put}
 use Rattle.halves.specs.Half.{decoded, half}
@@ -261,7 +261,7 @@ holds lag _ s (first b at st) = starting-so lag at [] b s (nobody lag at b) st
 holds lag _ s' (did {done} {s} d run r) =
     let P : State → Type 0 = λ y. Inv lag (record { digest = d; tick = s.now } ∷ done) y in
     subst P (sym r.is) (record-so lag d done s s'.halves s'.blocks (holds lag done s run) r.awake r.room r.fits _ refl r.written)
-holds lag _ s' (did-not {done} {s} d run r) =
+holds lag _ s' (did_not {done} {s} d run r) =
     let P : State → Type 0 = λ y. Inv lag done y in
     subst P (sym r.is) (fail-so lag d done s s'.halves s'.blocks (holds lag done s run) r.awake r.room r.fits _ refl r.written r.left)
 holds lag _ s' (ticked {done} {s} to run t) =

@@ -74,7 +74,7 @@ pub record Falls (lag : ℕ) (s : State) (at : ℕ) (s' : State) : Type 0 where
 pub data Run (lag : ℕ) : List Entry → State → Type 0 where
   first : {s : State} (b : Blocks) (at : ℕ) → Starting lag b at s → Run lag [] s
   did : {done : List Entry} {s s' : State} (d : ℕ) → Run lag done s → Records lag s d true s' → Run lag (record { digest = d; tick = s.now } ∷ done) s'
-  did-not : {done : List Entry} {s s' : State} (d : ℕ) → Run lag done s → Records lag s d false s' → Run lag done s'
+  did_not : {done : List Entry} {s s' : State} (d : ℕ) → Run lag done s → Records lag s d false s' → Run lag done s'
   ticked : {done : List Entry} {s s' : State} (to : ℕ) → Run lag done s → Ticks s to s' → Run lag done s'
   fell : {done : List Entry} {s s' : State} (at : ℕ) → Run lag done s → Falls lag s at s' → Run lag done s'
 

@@ -1,12 +1,12 @@
 -- A half in bytes: turn (8), payload, sum (16). Assumes nothing. Vocabulary:
 --   Measure          how many bytes the payload has that stands at the front of some bytes, if one does
 --   Steady m         what follows a payload does not matter
---   sum_of bs         the first 16 bytes of SHA-256 of bs
+--   sum_of bs        the first 16 bytes of SHA-256 of bs
 --   stamp t          a turn in 8 bytes, high byte first
 --   summed bs        bytes with their sum behind them
 --   half t p         the bytes of a half with turn t and payload p
---   payload_in x      what stands between turn and sum of a half of just this length
---   is_zero bs        nothing but zeros
+--   payload_in x     what stands between turn and sum of a half of just this length
+--   is_zero bs       nothing but zeros
 --   decoded m x      turn and length of payload of the half at the front of a block, none if it is junk
 use Rattle.std.specs.Prelude.{◌≡◌, ℕ, ◌+◌, ◌-◌, Bool, true, cond, ◌&&◌, ◌||◌, List, [], ◌∷◌, ◌++◌, length, take, drop, Some, None, Option, ◌==◌, nat_le, nat_lt}
 use Rattle.contents.specs.Field.{bytes_of, number}

@@ -1,15 +1,15 @@
 -- Two halves by turns. Assumes nothing. Vocabulary:
 --   newer_of h k         the newer of two good halves
 --   known_of l o q       what is known of two halves, by what each is
---   standing m b        what is known of the halves on a device
+--   standing m b         what is known of the halves on a device
 --   next_of h len        where the next payload goes, of so many bytes, and with which turn
 --   part_of n x          the payload of n bytes in a block
 --   payload_of n b       the payload that counts
---   target h x          where the payload goes that stands in lent bytes
---   wrote h g           what is known once a half was written
---   Tried ..            what is promised of a write
+--   target h x           where the payload goes that stands in lent bytes
+--   wrote h g            what is known once a half was written
+--   Tried ..             what is promised of a write
 --   is_new n b           a device of zeros alone, of full length
---   Starts ..           what is promised of a start
+--   Starts ..            what is promised of a start
 use Rattle.std.specs.Prelude.{◌≡◌, ℕ, ◌+◌, ◌-◌, ◌^◌, Bool, true, false, cond, not, ◌&&◌, List, [], length, take, drop, is_some, Some, None, Option, ◌==◌, nat_le, nat_lt}
 use Rattle.halves.specs.Blocks.{Blocks, Writes, block, other}
 use Rattle.halves.specs.Half.{Measure, decoded, half, is_zero, payload_in}

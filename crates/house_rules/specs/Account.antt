@@ -1,9 +1,9 @@
 -- Accounts by their numbers. Assumes nothing.
 --
--- account_of xs n    the account of a number; absent where there is none
+-- account_of xs n   the account of a number; absent where there is none
 -- unknown xs n      nobody has this number
 -- closed xs n       its account is closed
--- own_key xs n       its own key
+-- own_key xs n      its own key
 use Rattle.std.specs.Prelude.{ℕ, Bool, true, false, ◌||◌, List, replicate, slice_index_or}
 use Rattle.parts.specs.declared.account.Account.{Account}
 use Rattle.parts.specs.declared.account.Account.TheVariants.{Absent, Closed, Open}

@@ -1,8 +1,8 @@
 -- What the house answers to logins and askings, and what it leaves. Assumes nothing.
 --
 -- Home                    the house as its contracts see it
--- login_conditions h a l   all that can be wrong with a login of a, the lowest number first
--- logged_in h a l          what it answers to it; login_after: what it is afterwards
+-- login_conditions h a l  all that can be wrong with a login of a, the lowest number first
+-- logged_in h a l         what it answers to it; login_after: what it is afterwards
 -- wanted q                the service that an asking for the house names
 -- conditions h t q d      all that can be wrong with an asking that was read
 -- answered h t q d        what the house answers to ticket t and asking q with digest d

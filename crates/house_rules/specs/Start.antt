@@ -1,7 +1,7 @@
 -- Starting the house, and going on in time. Assumes nothing.
 --
 -- Settled              the house without what is lent to it
--- started_house ..      the house that starts at a tick with what is remembered, or 13
+-- started_house ..     the house that starts at a tick with what is remembered, or 13
 use Rattle.std.specs.Prelude.{ℕ, Bool, cond, ◌||◌, List, Ok, Err, Result, ◌==◌, nat_lt}
 use Rattle.house_rules.specs.declared.house.House.{House}
 use Rattle.parts.specs.declared.account.Entry.{Entry}

@@ -28,7 +28,7 @@ named-same (suc (suc (suc (suc m)))) h = absurd (omega arith)
 introduced : Introduced setting n judge_there 10 happens
 unfolding first_fault own_name
 introduced =
-    (tt, (refl, (tt, (record { of-service = refl; of-house = refl; of_reader = λ i. refl }, (record { of-service = refl; of-house = refl; of_reader = λ i. refl }, (tt, (record { of-service = refl; of-house = refl; of_reader = λ i. refl }, (tt, (tt, (tt, (tt, (tt, (tt, (tt, (tt, (tt, (tt, (tt, (tt, (tt, tt))))))))))))))))))))
+    (tt, (refl, (tt, (record { of_service = refl; of_house = refl; of_reader = λ i. refl }, (record { of_service = refl; of_house = refl; of_reader = λ i. refl }, (tt, (record { of_service = refl; of_house = refl; of_reader = λ i. refl }, (tt, (tt, (tt, (tt, (tt, (tt, (tt, (tt, (tt, (tt, (tt, (tt, (tt, tt))))))))))))))))))))
 
 pub met : Met
 unfolding first_fault own_name
@@ -37,7 +37,7 @@ met =
       naming = n;
       named = record { there = named-there; same = named-same };
       possible = happens-can;
-      begins = record { lag = refl; no_lines = refl; no-thefts = refl };
+      begins = record { lag = refl; no_lines = refl; no_thefts = refl };
       introduced = introduced;
       says = refl;
     }

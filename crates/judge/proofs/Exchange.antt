@@ -41,11 +41,11 @@ module _ (c : Setting) (n : Naming c.own) (ls : List Wanted) (ds : List Deed) (t
   it-stands f = subst (λ (y : List Mark). Memᴰ f.it y) (sym f.split) (middle f.before f.after f.it)
 
   it-known : (f : First c.lag (claim x) s.marks) → Memᴰ f.it.wanted ls
-  it-known f = s.known-mark f.it (it-stands f)
+  it-known f = s.known_mark f.it (it-stands f)
 
-  known-mark : (f : First c.lag (claim x) s.marks) (m : Mark) → Memᴰ m s.marks ⊎ (m ≡ spent_mark f.it) → Memᴰ m.wanted ls
-  known-mark f m (inl h) = s.known-mark m h
-  known-mark f m (inr e) = subst (λ (y : Mark). Memᴰ y.wanted ls) (sym e) (it-known f)
+  known_mark : (f : First c.lag (claim x) s.marks) (m : Mark) → Memᴰ m s.marks ⊎ (m ≡ spent_mark f.it) → Memᴰ m.wanted ls
+  known_mark f m (inl h) = s.known_mark m h
+  known_mark f m (inr e) = subst (λ (y : Mark). Memᴰ y.wanted ls) (sym e) (it-known f)
 
   low : (f : First c.lag (claim x) s.marks) (m : Mark) → Memᴰ m s.marks ⊎ (m ≡ spent_mark f.it) → m.wanted.place < suc p
   low f m (inl h) = let l = s.low m h in omega arith
@@ -72,7 +72,7 @@ module _ (c : Setting) (n : Naming c.own) (ls : List Wanted) (ds : List Deed) (t
       record {
         marks = s.marks;
         same = ap (λ (y : List Noted). spend c.lag (claim x) y) s.same ∙ f.keeps;
-        known-mark = s.known-mark;
+        known_mark = s.known_mark;
         low = λ m h. let l = s.low m h in omega arith;
         up = s.up;
         complete = λ w h l. s.complete w h (strictly none w h l);
@@ -89,7 +89,7 @@ module _ (c : Setting) (n : Naming c.own) (ls : List Wanted) (ds : List Deed) (t
       record {
         marks = spent_marks f;
         same = ap (λ (y : List Noted). spend c.lag (claim x) y) s.same ∙ f.spends;
-        known-mark = λ m h. known-mark f m (was f m h);
+        known_mark = λ m h. known_mark f m (was f m h);
         low = λ m h. low f m (was f m h);
         up = up-spent 0 f.before f.after f.it (subst (λ (y : List Mark). Up 0 y) f.split s.up);
         complete = λ w h l. complete f w (s.complete w h (strictly none w h l));
@@ -107,7 +107,7 @@ module _ (c : Setting) (n : Naming c.own) (ls : List Wanted) (ds : List Deed) (t
           let a = s.asked d h w (on q) in
           let reader : d.reader ≡ x.reader = sym a.reader ∙ ap (λ (y : Wanted). y.reader) g ∙ f.fit.reader in
           let service : d.service ≡ x.service = sym a.service ∙ ap (λ (y : Wanted). y.service) g ∙ f.fit.service in
-          let safe = safe-back (rules_of c n) x.stolen d.stolen d.reader d.service (t.thefts-stay x d here h (omega arith)) w in
+          let safe = safe-back (rules_of c n) x.stolen d.stolen d.reader d.service (t.thefts_stay x d here h (omega arith)) w in
           clash bad (subst (λ (y : ℕ). Safe (rules_of c n) x.stolen x.reader y) service (subst (λ (y : ℕ). Safe (rules_of c n) x.stolen y d.service) reader safe))
 
   -- the deed is safe: its own line goes to whoever had the one that is spent
@@ -170,7 +170,7 @@ module _ (c : Setting) (n : Naming c.own) (ls : List Wanted) (ds : List Deed) (t
 
         go : (f.it.wanted.place ≡ own.place) ⊎ (f.it.wanted.place < own.place) → f.it.wanted.at ≤ own.at
         go (inl e) = let i = ap (λ (y : Wanted). y.at) (t.single f.it.wanted own (it-known f) own-known e) in omega arith
-        go (inr e) = t.lines-on f.it.wanted own (it-known f) own-known e reader
+        go (inr e) = t.lines_on f.it.wanted own (it-known f) own-known e reader
 
     -- this deed had the line that is spent
     abbrev had : (d : Deed) (h : Memᴰ d ds) (w : SafeDeed c n d) (q : suc p ≤ d.place) → Bool
@@ -188,9 +188,9 @@ module _ (c : Setting) (n : Naming c.own) (ls : List Wanted) (ds : List Deed) (t
         let reader : d.reader ≡ x.reader = sym a.reader ∙ ap (λ (y : Wanted). y.reader) g ∙ f.fit.reader in
         let service : d.service ≡ x.service = sym a.service ∙ ap (λ (y : Wanted). y.service) g ∙ f.fit.service in
         let what : d.what ≡ x.what = sym a.what ∙ ap (λ (y : Wanted). y.what) g ∙ f.fit.what in
-        let on-time : x.at ≤ d.at = t.deeds-on x d here h (omega arith) (sym service) in
+        let on-time : x.at ≤ d.at = t.deeds_on x d here h (omega arith) (sym service) in
         let before = m.before in
-        let after = m.not-later in
+        let after = m.not_later in
         let i = a.lately in
         let j = not-above in
         let k : (s.line_for d h w (on q)).at ≡ f.it.wanted.at = ap (λ (y : Wanted). y.at) g in
@@ -199,7 +199,7 @@ module _ (c : Setting) (n : Naming c.own) (ls : List Wanted) (ds : List Deed) (t
           service = m.service ∙ sym service;
           what = m.what ∙ sym what;
           before = omega arith;
-          not-later = omega arith;
+          not_later = omega arith;
           lately = omega arith;
         }
 
@@ -226,7 +226,7 @@ module _ (c : Setting) (n : Naming c.own) (ls : List Wanted) (ds : List Deed) (t
         record {
           marks = spent_marks f;
           same = ap (λ (y : List Noted). spend c.lag (claim x) y) s.same ∙ f.spends;
-          known-mark = λ m h. known-mark f m (was f m h);
+          known_mark = λ m h. known_mark f m (was f m h);
           low = λ m h. low f m (was f m h);
           up = up-spent 0 f.before f.after f.it (subst (λ (y : List Mark). Up 0 y) f.split s.up);
           complete = λ w h l. complete f w (s.complete w h (strictly none w h l));

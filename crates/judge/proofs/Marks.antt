@@ -42,7 +42,7 @@ pub record Fit (lag : ℕ) (a : Act) (m : Mark) : Type 0 where
   pub reader : m.wanted.reader ≡ a.reader
   pub service : m.wanted.service ≡ a.service
   pub what : m.wanted.what ≡ a.words
-  pub not-later : m.wanted.at ≤ a.at
+  pub not_later : m.wanted.at ≤ a.at
   pub lately : a.at ≤ m.wanted.at + lag
 
 pub fit_of : (lag : ℕ) (a : Act) (m : Mark) → fits lag a (noted_of m) ≡ true → Fit lag a m
@@ -59,13 +59,13 @@ fit_of lag a m h =
       reader = eqb-true _ _ q.0;
       service = eqb-true _ _ r.0;
       what = same-eq _ _ s.1;
-      not-later = i;
+      not_later = i;
       lately = omega arith;
     }
 
 pub of-fit : (lag : ℕ) (a : Act) (m : Mark) → Fit lag a m → fits lag a (noted_of m) ≡ true
 of-fit lag a m f =
-    let i = f.not-later in
+    let i = f.not_later in
     let j = f.lately in
     and-true (not m.spent) _ (ap not f.unspent)
     (and-true (eqb m.wanted.reader a.reader) _ (eq-eqb _ _ f.reader)
@@ -76,7 +76,7 @@ of-fit lag a m f =
 -- a line that the row has for a deed fits it, if it is not spent
 pub fit-for : (c : Setting) (n : Naming c.own) (d : Deed) (w : Wanted) → For c n d w → Fit c.lag (claim d) (mark w false)
 fit-for c n d w f =
-    record { unspent = refl; reader = f.reader; service = f.service; what = f.what; not-later = f.not-later; lately = f.lately }
+    record { unspent = refl; reader = f.reader; service = f.service; what = f.what; not_later = f.not_later; lately = f.lately }
 
 -- the oldest that fits, between those before and those after it
 pub record First (lag : ℕ) (a : Act) (ms : List Mark) : Type 0 where

@@ -6,7 +6,7 @@ use Rattle.judge.specs.Hearing.{Begins, Hearing, Knows, Orderly, claim, deed, he
 use Rattle.judge.specs.Meaning.{AskedBy, IsLine, Meaning, Names, RobbedOf}
 use Rattle.judge.proofs.Marks.{First, Fit, Mark, NoFit, fit_of, look, mark, none-fits, noted_of, of-fit, spent_mark}
 use Rattle.judge.proofs.Order.{line_low}
-use Rattle.judge.proofs.Settled.{counts-robbed, house-there, lag-is, no_line, safe-if}
+use Rattle.judge.proofs.Settled.{counts-robbed, house-there, lag_is, no_line, safe-if}
 use Rattle.judge.proofs.Spent.{Spent, found-by, names-found, spent-named}
 use Rattle.parts.specs.declared.word.Key.{Key}
 use Rattle.rows.specs.Name.{Naming, own_of}
@@ -177,13 +177,13 @@ module _ (c : Setting) (n : Naming c.own) (v : View) (r : Begins c n v) (xs : Li
             reader = ap (λ (z : Wanted). z.reader) h.is ∙ f.reader;
             service = ap (λ (z : Wanted). z.service) h.is ∙ f.service;
             what = ap (λ (z : Wanted). z.what) h.is ∙ f.what;
-            not-later = subst (λ (z : Wanted). z.at ≤ d.at) (sym h.is) f.not-later;
+            not_later = subst (λ (z : Wanted). z.at ≤ d.at) (sym h.is) f.not_later;
             lately = subst (λ (z : Wanted). d.at ≤ z.at + c.lag) (sym h.is) f.lately;
           } in
           absurd (clash (of-fit c.lag (claim d) h.it fit) (none h.it h.before h.after h.split h.many))
 
   lag-so : {x : Option Found} → oldest (sat v xs).lag (claim d) 0 (sat v xs).lines ≡ x → oldest c.lag (claim d) 0 (map noted_of w.marks) ≡ x
-  lag-so {x} e = subst (λ (z : List Noted). oldest c.lag (claim d) 0 z ≡ x) w.same (subst (λ (z : ℕ). oldest z (claim d) 0 (sat v xs).lines ≡ x) (lag-is c n v r xs) e)
+  lag-so {x} e = subst (λ (z : List Noted). oldest c.lag (claim d) 0 z ≡ x) w.same (subst (λ (z : ℕ). oldest z (claim d) 0 (sat v xs).lines ≡ x) (lag_is c n v r xs) e)
 
   asked_by : (k t : ℕ) → verdict (sat v xs) (claim d) ≡ Asked k t → AskedBy c n v xs d k t
   asked_by k t e =
@@ -210,7 +210,7 @@ module _ (c : Setting) (n : Naming c.own) (v : View) (r : Begins c n v) (xs : Li
                   service = g.service;
                   what = g.what;
                   before = omega arith;
-                  not-later = g.not-later;
+                  not_later = g.not_later;
                   lately = g.lately;
                 };
             oldest =
@@ -234,7 +234,7 @@ module _ (c : Setting) (n : Naming c.own) (v : View) (r : Begins c n v) (xs : Li
 -- the keys that the judge has are keys of those robbed
 module _ (c : Setting) (n : Naming c.own) (v : View) (r : Begins c n v) where
   whose : (xs : List Hearing) → Orderly c n v xs → (k : Key) → is_key_in k (sat v xs).stolen ≡ true → (m : ℕ) × Memᴰ m (thefts xs) × (m < length c.own) × ((own_of c.own m).0 ≡ k.0)
-  whose [] o k h = absurd (clash {b = false} (subst (λ (z : List Key). is_key_in k z ≡ true) r.no-thefts h) refl)
+  whose [] o k h = absurd (clash {b = false} (subst (λ (z : List Key). is_key_in k z ≡ true) r.no_thefts h) refl)
   whose (nothing ∷ xs) o k h = whose xs o.1 k h
   whose (line w ∷ xs) o k h = whose xs o.1 k h
   whose (deed d ∷ xs) o k h = whose xs o.1 k h
@@ -279,7 +279,7 @@ module _ (c : Setting) (n : Naming c.own) (v : View) (r : Begins c n v) where
       to : robbed (sat v xs) y ≡ true → is_in (n.key_of y) (map n.key_of (thefts xs)) ≡ true
       to e =
           let m = whose xs o (own_of c.own y) (subst (λ (z : Option Key). is_taken z (sat v xs).stolen ≡ true) knows e) in
-          let s : Own (n.key_of m.0) ≡ Own (n.key_of y) = sym (n.of-own m.0 m.2) ∙ ap n.name m.3 ∙ n.of-own y there in
+          let s : Own (n.key_of m.0) ≡ Own (n.key_of y) = sym (n.of_own m.0 m.2) ∙ ap n.name m.3 ∙ n.of_own y there in
           let q : n.key_of m.0 ≡ n.key_of y = cc in
           subst (λ (z : ℕ). is_in z (map n.key_of (thefts xs)) ≡ true) q (is-in n.key_of m.0 (thefts xs) m.1)
 
@@ -309,7 +309,7 @@ meaning c n v r xs d o =
       asked = λ k t e. asked_by c n v r xs d o k t e;
       spent = λ h k w l f. spent-before c n v r xs d o h k w l f;
       stolen = λ x y z e. robbed-of x y z e;
-      not-asked = λ e f. let q = no_line c n v r (sat v xs) d e in safe-if c n v r f d xs o q.1 q.2 q.3;
+      not_asked = λ e f. let q = no_line c n v r (sat v xs) d e in safe-if c n v r f d xs o q.1 q.2 q.3;
     }
   where
     robbed-of : (x y z : Bool) → verdict (sat v xs) (claim d) ≡ Stolen x y z → RobbedOf c n d x y z
@@ -318,7 +318,7 @@ meaning c n v r xs d o =
         let same : map n.key_of (thefts xs) ≡ d.stolen = sym o.0.stolen in
         record {
           of_reader = λ i. sym q.0 ∙ exact c n v r xs o.1 d.reader i (o.0.knows.of_reader i) ∙ ap (λ (u : List ℕ). is_in (n.key_of d.reader) u) same;
-          of-service = sym q.1 ∙ exact c n v r xs o.1 d.service o.0.there o.0.knows.of-service ∙ ap (λ (u : List ℕ). is_in (n.key_of d.service) u) same;
-          of-house = sym q.2 ∙ exact c n v r xs o.1 0 (house-there c n v r xs o.1) o.0.knows.of-house ∙ ap (λ (u : List ℕ). is_in (n.key_of 0) u) same;
+          of_service = sym q.1 ∙ exact c n v r xs o.1 d.service o.0.there o.0.knows.of_service ∙ ap (λ (u : List ℕ). is_in (n.key_of d.service) u) same;
+          of_house = sym q.2 ∙ exact c n v r xs o.1 0 (house-there c n v r xs o.1) o.0.knows.of_house ∙ ap (λ (u : List ℕ). is_in (n.key_of 0) u) same;
           one = q.3;
         }

@@ -65,33 +65,33 @@ module _ (c : Setting) (n : Naming c.own) (v : View) where
   single (theft m ∷ xs) o w u h k e = single xs o.1 w u h k e
   single (joins p ∷ xs) o w u h k e = single xs o.1 w u h k e
 
-  lines-on : (xs : List Hearing) → Orderly c n v xs → (w u : Wanted) → Memᴰ w (heard_lines xs) → Memᴰ u (heard_lines xs) → w.place < u.place → w.reader ≡ u.reader → w.at ≤ u.at
-  lines-on [] o w u h k e r = absurd (Memᴰ.not-nil h)
-  lines-on (nothing ∷ xs) o w u h k e r = lines-on xs o.1 w u h k e r
-  lines-on (line y ∷ xs) o w u h k e r = go (Memᴰ.cases_cons h) (Memᴰ.cases_cons k) (λ i j. lines-on xs o.1 w u i j e r)
+  lines_on : (xs : List Hearing) → Orderly c n v xs → (w u : Wanted) → Memᴰ w (heard_lines xs) → Memᴰ u (heard_lines xs) → w.place < u.place → w.reader ≡ u.reader → w.at ≤ u.at
+  lines_on [] o w u h k e r = absurd (Memᴰ.not-nil h)
+  lines_on (nothing ∷ xs) o w u h k e r = lines_on xs o.1 w u h k e r
+  lines_on (line y ∷ xs) o w u h k e r = go (Memᴰ.cases_cons h) (Memᴰ.cases_cons k) (λ i j. lines_on xs o.1 w u i j e r)
     where
       go : (w ≡ y) ⊎ Memᴰ w (heard_lines xs) → (u ≡ y) ⊎ Memᴰ u (heard_lines xs) → (Memᴰ w (heard_lines xs) → Memᴰ u (heard_lines xs) → w.at ≤ u.at) → w.at ≤ u.at
       go (inl i) (inl j) rest = absurd (let p = ap (λ (z : Wanted). z.place) i in let q = ap (λ (z : Wanted). z.place) j in omega arith)
       go (inl i) (inr j) rest = absurd (let p = o.0.place in let q = ap (λ (z : Wanted). z.place) i in let l = line_low xs o.1 u j in omega arith)
       go (inr i) (inl j) rest = let p = o.0.time w i (r ∙ ap (λ (z : Wanted). z.reader) j) in let q = ap (λ (z : Wanted). z.at) j in omega arith
       go (inr i) (inr j) rest = rest i j
-  lines-on (deed d ∷ xs) o w u h k e r = lines-on xs o.1 w u h k e r
-  lines-on (theft m ∷ xs) o w u h k e r = lines-on xs o.1 w u h k e r
-  lines-on (joins p ∷ xs) o w u h k e r = lines-on xs o.1 w u h k e r
+  lines_on (deed d ∷ xs) o w u h k e r = lines_on xs o.1 w u h k e r
+  lines_on (theft m ∷ xs) o w u h k e r = lines_on xs o.1 w u h k e r
+  lines_on (joins p ∷ xs) o w u h k e r = lines_on xs o.1 w u h k e r
 
-  deeds-on : (xs : List Hearing) → Orderly c n v xs → (d e : Deed) → Memᴰ d (heard_deeds xs) → Memᴰ e (heard_deeds xs) → d.place < e.place → d.service ≡ e.service → d.at ≤ e.at
-  deeds-on [] o d e h k l r = absurd (Memᴰ.not-nil h)
-  deeds-on (nothing ∷ xs) o d e h k l r = deeds-on xs o.1 d e h k l r
-  deeds-on (line y ∷ xs) o d e h k l r = deeds-on xs o.1 d e h k l r
-  deeds-on (deed y ∷ xs) o d e h k l r = go (Memᴰ.cases_cons h) (Memᴰ.cases_cons k) (λ i j. deeds-on xs o.1 d e i j l r)
+  deeds_on : (xs : List Hearing) → Orderly c n v xs → (d e : Deed) → Memᴰ d (heard_deeds xs) → Memᴰ e (heard_deeds xs) → d.place < e.place → d.service ≡ e.service → d.at ≤ e.at
+  deeds_on [] o d e h k l r = absurd (Memᴰ.not-nil h)
+  deeds_on (nothing ∷ xs) o d e h k l r = deeds_on xs o.1 d e h k l r
+  deeds_on (line y ∷ xs) o d e h k l r = deeds_on xs o.1 d e h k l r
+  deeds_on (deed y ∷ xs) o d e h k l r = go (Memᴰ.cases_cons h) (Memᴰ.cases_cons k) (λ i j. deeds_on xs o.1 d e i j l r)
     where
       go : (d ≡ y) ⊎ Memᴰ d (heard_deeds xs) → (e ≡ y) ⊎ Memᴰ e (heard_deeds xs) → (Memᴰ d (heard_deeds xs) → Memᴰ e (heard_deeds xs) → d.at ≤ e.at) → d.at ≤ e.at
       go (inl i) (inl j) rest = absurd (let p = ap (λ (z : Deed). z.place) i in let q = ap (λ (z : Deed). z.place) j in omega arith)
       go (inl i) (inr j) rest = absurd (let p = o.0.place in let q = ap (λ (z : Deed). z.place) i in let s = deed-low xs o.1 e j in omega arith)
       go (inr i) (inl j) rest = let p = o.0.time d i (r ∙ ap (λ (z : Deed). z.service) j) in let q = ap (λ (z : Deed). z.at) j in omega arith
       go (inr i) (inr j) rest = rest i j
-  deeds-on (theft m ∷ xs) o d e h k l r = deeds-on xs o.1 d e h k l r
-  deeds-on (joins p ∷ xs) o d e h k l r = deeds-on xs o.1 d e h k l r
+  deeds_on (theft m ∷ xs) o d e h k l r = deeds_on xs o.1 d e h k l r
+  deeds_on (joins p ∷ xs) o d e h k l r = deeds_on xs o.1 d e h k l r
 
   -- a deed carries no theft that was not heard before it
   thefts-heard : (xs : List Hearing) → Orderly c n v xs → (d : Deed) → Memᴰ d (heard_deeds xs) → Sub d.stolen (map n.key_of (thefts xs))
@@ -106,22 +106,22 @@ module _ (c : Setting) (n : Naming c.own) (v : View) where
   thefts-heard (theft m ∷ xs) o d h = λ a i. sub_more (n.key_of m) (map n.key_of (thefts xs)) a (thefts-heard xs o.1 d h a i)
   thefts-heard (joins p ∷ xs) o d h = thefts-heard xs o.1 d h
 
-  thefts-stay : (xs : List Hearing) → Orderly c n v xs → (d e : Deed) → Memᴰ d (heard_deeds xs) → Memᴰ e (heard_deeds xs) → d.place < e.place → Sub d.stolen e.stolen
-  thefts-stay [] o d e h k l = absurd (Memᴰ.not-nil h)
-  thefts-stay (nothing ∷ xs) o d e h k l = thefts-stay xs o.1 d e h k l
-  thefts-stay (line y ∷ xs) o d e h k l = thefts-stay xs o.1 d e h k l
-  thefts-stay (deed y ∷ xs) o d e h k l = go (Memᴰ.cases_cons h) (Memᴰ.cases_cons k) (λ i j. thefts-stay xs o.1 d e i j l)
+  thefts_stay : (xs : List Hearing) → Orderly c n v xs → (d e : Deed) → Memᴰ d (heard_deeds xs) → Memᴰ e (heard_deeds xs) → d.place < e.place → Sub d.stolen e.stolen
+  thefts_stay [] o d e h k l = absurd (Memᴰ.not-nil h)
+  thefts_stay (nothing ∷ xs) o d e h k l = thefts_stay xs o.1 d e h k l
+  thefts_stay (line y ∷ xs) o d e h k l = thefts_stay xs o.1 d e h k l
+  thefts_stay (deed y ∷ xs) o d e h k l = go (Memᴰ.cases_cons h) (Memᴰ.cases_cons k) (λ i j. thefts_stay xs o.1 d e i j l)
     where
       go : (d ≡ y) ⊎ Memᴰ d (heard_deeds xs) → (e ≡ y) ⊎ Memᴰ e (heard_deeds xs) → (Memᴰ d (heard_deeds xs) → Memᴰ e (heard_deeds xs) → Sub d.stolen e.stolen) → Sub d.stolen e.stolen
       go (inl i) (inl j) rest = absurd (let p = ap (λ (z : Deed). z.place) i in let q = ap (λ (z : Deed). z.place) j in omega arith)
       go (inl i) (inr j) rest = absurd (let p = o.0.place in let q = ap (λ (z : Deed). z.place) i in let s = deed-low xs o.1 e j in omega arith)
       go (inr i) (inl j) rest = subst (λ (z : List ℕ). Sub d.stolen z) (sym (ap (λ (z : Deed). z.stolen) j ∙ o.0.stolen)) (thefts-heard xs o.1 d i)
       go (inr i) (inr j) rest = rest i j
-  thefts-stay (theft m ∷ xs) o d e h k l = thefts-stay xs o.1 d e h k l
-  thefts-stay (joins p ∷ xs) o d e h k l = thefts-stay xs o.1 d e h k l
+  thefts_stay (theft m ∷ xs) o d e h k l = thefts_stay xs o.1 d e h k l
+  thefts_stay (joins p ∷ xs) o d e h k l = thefts_stay xs o.1 d e h k l
 
-  pub in-time : (xs : List Hearing) → Orderly c n v xs → InTime c n (heard_lines xs) (heard_deeds xs)
-  in-time xs o = record { single = single xs o; lines-on = lines-on xs o; deeds-on = deeds-on xs o; thefts-stay = thefts-stay xs o }
+  pub in_time : (xs : List Hearing) → Orderly c n v xs → InTime c n (heard_lines xs) (heard_deeds xs)
+  in_time xs o = record { single = single xs o; lines_on = lines_on xs o; deeds_on = deeds_on xs o; thefts_stay = thefts_stay xs o }
 
   -- the line at a place is the one heard there
   pub line_at : (ys : List Hearing) (x : Hearing) (xs : List Hearing) → Orderly c n v (ys ++ (x ∷ xs)) → (w : Wanted) → Memᴰ w (heard_lines (ys ++ (x ∷ xs))) → w.place ≡ length xs → Memᴰ w (line_in x)

@@ -198,11 +198,11 @@ module _ (c : Setting) (n : Naming c.own) where
   line-now (told.Shown k) w u h = absurd (Memᴰ.not-nil h)
   line-now (told.Wrong f) w u h = absurd (Memᴰ.not-nil h)
 
-  box-now : (t : ℕ) (es : List Act) → Possible c n t es → (a : ℕ) → ((run c n t es).box a).now ≡ (run c n t es).home.side.now
-  box-now t es h a = let o = tied c n t es h in (o.matches.box a).now-is ∙ sym o.matches.home.now-is
+  box_now : (t : ℕ) (es : List Act) → Possible c n t es → (a : ℕ) → ((run c n t es).box a).now ≡ (run c n t es).home.side.now
+  box_now t es h a = let o = tied c n t es h in (o.matches.box a).now_is ∙ sym o.matches.home.now_is
 
   side-now : (t : ℕ) (es : List Act) → Possible c n t es → (v : ℕ) → (v ≡ 0 → ⊥) → ((run c n t es).side v).side.now ≡ (run c n t es).home.side.now
-  side-now t es h v z = let o = tied c n t es h in (o.matches.side v z).now-is ∙ sym o.matches.home.now-is
+  side-now t es h v z = let o = tied c n t es h in (o.matches.side v z).now_is ∙ sym o.matches.home.now_is
 
   new_line_lem : (t : ℕ) (es : List Act) → Possible c n t es → (e : Act) (u : Wanted) → Memᴰ u (line_by c n e (run c n t es) (length es)) → u.at ≡ (run c n t es).home.side.now
   new_line_lem t es h (system.tells to) u k = absurd (Memᴰ.not-nil k)
@@ -210,7 +210,7 @@ module _ (c : Setting) (n : Naming c.own) where
   new_line_lem t es h (system.steals m) u k = absurd (Memᴰ.not-nil k)
   new_line_lem t es h (system.opens m x w) u k = absurd (Memᴰ.not-nil k)
   new_line_lem t es h (system.closes m w) u k = absurd (Memᴰ.not-nil k)
-  new_line_lem t es h (system.wants a v by w) u k = ap (λ (z : Wanted). z.at) (line-now (boxline.wanted ((run c n t es).box a) v by w) _ u k) ∙ box-now t es h a
+  new_line_lem t es h (system.wants a v by w) u k = ap (λ (z : Wanted). z.at) (line-now (boxline.wanted ((run c n t es).box a) v by w) _ u k) ∙ box_now t es h a
   new_line_lem t es h (system.logs_in a l) u k = absurd (Memᴰ.not-nil k)
   new_line_lem t es h (system.asks_house x q) u k = absurd (Memᴰ.not-nil k)
   new_line_lem t es h (system.asks v x q) u k = absurd (Memᴰ.not-nil k)
@@ -233,7 +233,7 @@ module _ (c : Setting) (n : Naming c.own) where
   new-deed t es h (system.logs_in a l) j u k = absurd (Memᴰ.not-nil k)
   new-deed t es h (system.asks_house x q) j u k = absurd (Memᴰ.not-nil k)
   new-deed t es h (system.asks v x q) j u k =
-      deed-now (service.answered ((run c n t es).side v) x q (c.digest x.key q.number)) _ _ _ _ u k ∙ side-now t es h v j.a-service
+      deed-now (service.answered ((run c n t es).side v) x q (c.digest x.key q.number)) _ _ _ _ u k ∙ side-now t es h v j.a_service
   new-deed t es h (system.takes a y l) j u k = absurd (Memᴰ.not-nil k)
   new-deed t es h (system.hears who) j u k = absurd (Memᴰ.not-nil k)
   new-deed t es h (system.device who w) j u k = absurd (Memᴰ.not-nil k)
@@ -298,11 +298,11 @@ module _ (c : Setting) (n : Naming c.own) where
     in_order t es h (system.steals m) j k = record { there = j; knows = k }
     in_order t es h (system.opens m x w) j k = tt
     in_order t es h (system.closes m w) j k = tt
-    in_order t es h (system.wants a s by w) j k = in-order-line t es h (boxline.wanted ((run c n t es).box a) s by w) _ refl (box-now t es h a)
+    in_order t es h (system.wants a s by w) j k = in-order-line t es h (boxline.wanted ((run c n t es).box a) s by w) _ refl (box_now t es h a)
     in_order t es h (system.logs_in a l) j k = tt
     in_order t es h (system.asks_house x q) j k = tt
     in_order t es h (system.asks s x q) j k =
-        in-order-deed t es h s x q j.a-service j.there k (first_fault (service.conditions ((run c n t es).side s) x q (c.digest x.key q.number)))
+        in-order-deed t es h s x q j.a_service j.there k (first_fault (service.conditions ((run c n t es).side s) x q (c.digest x.key q.number)))
     in_order t es h (system.takes a y l) j k = tt
     in_order t es h (system.hears who) j k = tt
     in_order t es h (system.device who w) j k = tt
@@ -353,7 +353,7 @@ module _ (c : Setting) (n : Naming c.own) where
   known-to v h s z (system.wants a y by w) j = tt
   known-to v h s z (system.logs_in a l) j = tt
   known-to v h s z (system.asks_house x q) j = tt
-  known-to v h s z (system.asks y x q) j = record { of-service = h y j.there; of-house = h 0 z; of_reader = λ i. h x.reader i }
+  known-to v h s z (system.asks y x q) j = record { of_service = h y j.there; of_house = h 0 z; of_reader = λ i. h x.reader i }
   known-to v h s z (system.takes a y l) j = tt
   known-to v h s z (system.hears who) j = tt
   known-to v h s z (system.device who w) j = tt

@@ -5,7 +5,7 @@ use Rattle.judge_rules.specs.declared.record.Verdict.TheVariants.{NotAsked}
 use Rattle.judge.specs.Hearing.{Begins, FirstNamed, Hearing, Knows, Orderly, Settled, claim, deed, heard_deeds, heard_lines, joins, line, line_in, nothing, sat, theft, thefts, verdicts}
 use Rattle.judge.proofs.Standing.{Standing, begins, finds, notes, passes}
 use Rattle.judge.proofs.Exchange.{judges}
-use Rattle.judge.proofs.Order.{earlier, in-time, later-deed, later-line, line_at}
+use Rattle.judge.proofs.Order.{earlier, in_time, later-deed, later-line, line_at}
 use Rattle.parts.specs.declared.word.Key.{Key}
 use Rattle.rows.specs.Name.{Naming, own_of}
 use Rattle.rows.specs.Setting.{Setting, rules_of}
@@ -43,13 +43,13 @@ key-new k x (y ∷ ks) e = or_right (bytes_eq y.0 k.0) _ (key-new k x ks e)
 
 module _ (c : Setting) (n : Naming c.own) (v : View) (r : Begins c n v) where
   -- the lag stays
-  pub lag-is : (xs : List Hearing) → (sat v xs).lag ≡ c.lag
-  lag-is [] = r.lag
-  lag-is (nothing ∷ xs) = lag-is xs
-  lag-is (line w ∷ xs) = lag-is xs
-  lag-is (deed d ∷ xs) = lag-is xs
-  lag-is (theft m ∷ xs) = lag-is xs
-  lag-is (joins p ∷ xs) = lag-is xs
+  pub lag_is : (xs : List Hearing) → (sat v xs).lag ≡ c.lag
+  lag_is [] = r.lag
+  lag_is (nothing ∷ xs) = lag_is xs
+  lag_is (line w ∷ xs) = lag_is xs
+  lag_is (deed d ∷ xs) = lag_is xs
+  lag_is (theft m ∷ xs) = lag_is xs
+  lag_is (joins p ∷ xs) = lag_is xs
 
   -- the judge has the keys of all who were robbed
   pub has_key : (xs : List Hearing) → Orderly c n v xs → (m : ℕ) → Memᴰ m (thefts xs) → (k : Key) → (own_of c.own m).0 ≡ k.0 → is_key_in k (sat v xs).stolen ≡ true
@@ -81,7 +81,7 @@ module _ (c : Setting) (n : Naming c.own) (v : View) (r : Begins c n v) where
   -- two numbers with one name have one key: whoever has the name of one that was robbed counts as robbed
   pub counts-robbed : (xs : List Hearing) → Orderly c n v xs → (m y : ℕ) → Memᴰ m (thefts xs) → y < length c.own → Knows c n (sat v xs) y → n.key_of m ≡ n.key_of y → robbed (sat v xs) y ≡ true
   counts-robbed xs o m y h there knows e =
-      let same : (own_of c.own m).0 ≡ (own_of c.own y).0 = n.apart _ _ (n.of-own m (theft-there xs o m h) ∙ ap (λ (z : ℕ). Own z) e ∙ sym (n.of-own y there)) in
+      let same : (own_of c.own m).0 ≡ (own_of c.own y).0 = n.apart _ _ (n.of_own m (theft-there xs o m h) ∙ ap (λ (z : ℕ). Own z) e ∙ sym (n.of_own y there)) in
       subst (λ (z : Option Key). is_taken z (sat v xs).stolen ≡ true) (sym knows) (has_key xs o m h (own_of c.own y) same)
 
   pub house-there : (xs : List Hearing) → Orderly c n v xs → 0 < length c.own
@@ -96,30 +96,30 @@ module _ (c : Setting) (n : Naming c.own) (v : View) (r : Begins c n v) where
       among : (x : ℕ) → is_in x d.stolen ≡ true → (m : ℕ) × Memᴰ m (thefts xs) × (n.key_of m ≡ x)
       among x h = robbed-one n.key_of x (thefts xs) (subst (λ (z : List ℕ). is_in x z ≡ true) o.0.stolen h)
 
-      by-reader : is_in d.reader d.stolen ≡ true → ⊥
-      by-reader h =
+      by_reader : is_in d.reader d.stolen ≡ true → ⊥
+      by_reader h =
           let m = among d.reader h in
           let there = theft-there xs o.1 m.0 m.1 in
           let known : d.reader < length c.own = subst (λ (z : ℕ). z < length c.own) m.2 (f.there m.0 there) in
           clash (counts-robbed xs o.1 m.0 d.reader m.1 known (o.0.knows.of_reader known)
           (sym (f.same m.0 there) ∙ ap n.key_of m.2)) a
 
-      by-service : is_in (n.key_of d.service) d.stolen ≡ true → ⊥
-      by-service h = let m = among (n.key_of d.service) h in clash (counts-robbed xs o.1 m.0 d.service m.1 o.0.there o.0.knows.of-service m.2) b
+      by_service : is_in (n.key_of d.service) d.stolen ≡ true → ⊥
+      by_service h = let m = among (n.key_of d.service) h in clash (counts-robbed xs o.1 m.0 d.service m.1 o.0.there o.0.knows.of_service m.2) b
 
       by-house : is_in (n.key_of 0) d.stolen ≡ true → ⊥
-      by-house h = let m = among (n.key_of 0) h in clash (counts-robbed xs o.1 m.0 0 m.1 (house-there xs o.1) o.0.knows.of-house m.2) e
+      by-house h = let m = among (n.key_of 0) h in clash (counts-robbed xs o.1 m.0 0 m.1 (house-there xs o.1) o.0.knows.of_house m.2) e
 
       last : (is_in (n.key_of 0) d.stolen ≡ true) ⊎ (false ≡ true) → ⊥
       last (inl h) = by-house h
       last (inr h) = clash {b = false} h refl
 
       two : (is_in (n.key_of d.service) d.stolen ≡ true) ⊎ ((is_in (n.key_of 0) d.stolen || false) ≡ true) → ⊥
-      two (inl h) = by-service h
+      two (inl h) = by_service h
       two (inr h) = last (or_cases (is_in (n.key_of 0) d.stolen) false h)
 
       three : (is_in d.reader d.stolen ≡ true) ⊎ ((is_in (n.key_of d.service) d.stolen || (is_in (n.key_of 0) d.stolen || false)) ≡ true) → ⊥
-      three (inl h) = by-reader h
+      three (inl h) = by_reader h
       three (inr h) = two (or_cases (is_in (n.key_of d.service) d.stolen) _ h)
 
       go : Unsafe (rules_of c n) d.stolen d.reader d.service ⊎ SafeDeed c n d → SafeDeed c n d
@@ -151,12 +151,12 @@ module _ (c : Setting) (n : Naming c.own) (v : View) (r : Begins c n v) where
         step : (x : Hearing) → all ≡ ys ++ (x ∷ xs) → Standing c n (heard_lines all) (heard_deeds all) (length xs) (sat v xs).lines → Standing c n (heard_lines all) (heard_deeds all) (length (x ∷ xs)) (sat v (x ∷ xs)).lines
         step nothing e s = passes c n _ _ (length xs) _ s (λ w h p. Memᴰ.not-nil (at nothing e w h p))
         step (line w) e s =
-            notes c n _ _ (in-time c n v all order) (length xs) _ s w
+            notes c n _ _ (in_time c n v all order) (length xs) _ s w
             (subst (λ (z : List Hearing). Memᴰ w (heard_lines z)) (sym e) (later-line ys (line w ∷ xs) w (Memᴰ.head refl)))
             (earlier c n v ys (line w ∷ xs) (subst (λ z. Orderly c n v z) e order)).0.place
         step (deed d) e s =
-            subst (λ (z : ℕ). Standing c n (heard_lines all) (heard_deeds all) (length (deed d ∷ xs)) (judged (record { lag = z; own = (sat v xs).own; lines = (sat v xs).lines; stolen = (sat v xs).stolen }) (claim d)).lines) (sym (lag-is xs))
-            (judges c n _ _ (in-time c n v all order) (length xs) _ s d
+            subst (λ (z : ℕ). Standing c n (heard_lines all) (heard_deeds all) (length (deed d ∷ xs)) (judged (record { lag = z; own = (sat v xs).own; lines = (sat v xs).lines; stolen = (sat v xs).stolen }) (claim d)).lines) (sym (lag_is xs))
+            (judges c n _ _ (in_time c n v all order) (length xs) _ s d
             (subst (λ (z : List Hearing). Memᴰ d (heard_deeds z)) (sym e) (later-deed ys (deed d ∷ xs) d (Memᴰ.head refl)))
             (earlier c n v ys (deed d ∷ xs) (subst (λ z. Orderly c n v z) e order)).0.place
             (λ w h p. Memᴰ.not-nil (at (deed d) e w h p)))
@@ -177,7 +177,7 @@ module _ (c : Setting) (n : Naming c.own) (v : View) (r : Begins c n v) where
             finds c n _ _ (length xs) (sat v xs).lines (stands (ys ++ (deed d ∷ [])) xs (e ∙ sym (append_assoc ys (deed d ∷ []) xs))) d
             (subst (λ (z : List Hearing). Memᴰ d (heard_deeds z)) (sym e) (later-deed ys (deed d ∷ xs) d (Memᴰ.head refl))) o.0.place
             (safe-if f d xs o q.1 q.2 q.3)
-            (subst (λ (z : ℕ). oldest z (claim d) 0 (sat v xs).lines ≡ None) (lag-is xs) q.0)
+            (subst (λ (z : ℕ). oldest z (claim d) 0 (sat v xs).lines ≡ None) (lag_is xs) q.0)
 
         go : (NotAsked ≡ verdict (sat v xs) (claim d)) ⊎ Memᴰ NotAsked (verdicts v xs) → (Memᴰ NotAsked (verdicts v xs) → ⊥) → ⊥
         go (inl i) rest = here i

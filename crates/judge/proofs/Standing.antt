@@ -16,15 +16,15 @@ module _ (c : Setting) (n : Naming c.own) (ls : List Wanted) (ds : List Deed) wh
   -- how the lines and deeds of a row stand in time
   pub record InTime : Type 0 where
     pub single : (w u : Wanted) → Memᴰ w ls → Memᴰ u ls → w.place ≡ u.place → w ≡ u
-    pub lines-on : (w u : Wanted) → Memᴰ w ls → Memᴰ u ls → w.place < u.place → w.reader ≡ u.reader → w.at ≤ u.at
-    pub deeds-on : (d e : Deed) → Memᴰ d ds → Memᴰ e ds → d.place < e.place → d.service ≡ e.service → d.at ≤ e.at
-    pub thefts-stay : (d e : Deed) → Memᴰ d ds → Memᴰ e ds → d.place < e.place → Sub d.stolen e.stolen
+    pub lines_on : (w u : Wanted) → Memᴰ w ls → Memᴰ u ls → w.place < u.place → w.reader ≡ u.reader → w.at ≤ u.at
+    pub deeds_on : (d e : Deed) → Memᴰ d ds → Memᴰ e ds → d.place < e.place → d.service ≡ e.service → d.at ≤ e.at
+    pub thefts_stay : (d e : Deed) → Memᴰ d ds → Memᴰ e ds → d.place < e.place → Sub d.stolen e.stolen
 
   -- the judge's lines at a place: those of the row before it, in order; and each safe deed from there on has one that is not spent
   pub record Standing (p : ℕ) (ns : List Noted) : Type 0 where
     pub marks : List Mark
     pub same : ns ≡ map noted_of marks
-    pub known-mark : (m : Mark) → Memᴰ m marks → Memᴰ m.wanted ls
+    pub known_mark : (m : Mark) → Memᴰ m marks → Memᴰ m.wanted ls
     pub low : (m : Mark) → Memᴰ m marks → m.wanted.place < p
     pub up : Up 0 marks
     pub complete : (w : Wanted) → Memᴰ w ls → w.place < p → (b : Bool) × Memᴰ (mark w b) marks
@@ -41,7 +41,7 @@ module _ (c : Setting) (n : Naming c.own) (ls : List Wanted) (ds : List Deed) wh
       record {
         marks = [];
         same = refl;
-        known-mark = λ m h. absurd (Memᴰ.not-nil h);
+        known_mark = λ m h. absurd (Memᴰ.not-nil h);
         low = λ m h. absurd (Memᴰ.not-nil h);
         up = tt;
         complete = λ w h l. absurd (omega arith);
@@ -61,7 +61,7 @@ module _ (c : Setting) (n : Naming c.own) (ls : List Wanted) (ds : List Deed) wh
       record {
         marks = s.marks;
         same = s.same;
-        known-mark = s.known-mark;
+        known_mark = s.known_mark;
         low = λ m h. let l = s.low m h in omega arith;
         up = s.up;
         complete = λ w h l. s.complete w h (strictly w h l);
@@ -85,7 +85,7 @@ module _ (c : Setting) (n : Naming c.own) (ls : List Wanted) (ds : List Deed) wh
       record {
         marks = s.marks ++ (mark x false ∷ []);
         same = ap (λ (y : List Noted). y ++ (noted_of (mark x false) ∷ [])) s.same ∙ sym (map-append noted_of s.marks (mark x false ∷ []));
-        known-mark = λ m h. known-one m (Memᴰ.append_cases s.marks h);
+        known_mark = λ m h. known-one m (Memᴰ.append_cases s.marks h);
         low = λ m h. low-one m (Memᴰ.append_cases s.marks h);
         up = up_more 0 s.marks (mark x false) s.up (omega arith) (λ m h. let l = s.low m h in omega arith);
         complete = λ w h l. there w h l (either (eqb w.place p));
@@ -97,7 +97,7 @@ module _ (c : Setting) (n : Naming c.own) (ls : List Wanted) (ds : List Deed) wh
       }
     where
       known-one : (m : Mark) → Memᴰ m s.marks ⊎ Memᴰ m (mark x false ∷ []) → Memᴰ m.wanted ls
-      known-one m (inl h) = s.known-mark m h
+      known-one m (inl h) = s.known_mark m h
       known-one m (inr h) = subst (λ (y : Mark). Memᴰ y.wanted ls) (sym (Memᴰ.eq_of_singleton h)) here
 
       low-one : (m : Mark) → Memᴰ m s.marks ⊎ Memᴰ m (mark x false ∷ []) → m.wanted.place < suc p

@@ -125,15 +125,15 @@ module _ (c : Setting) (n : Naming c.own) where
   pub record Begins (v : View) : Type 0 where
     pub lag : v.lag ≡ c.lag
     pub no_lines : v.lines ≡ []
-    pub no-thefts : v.stolen ≡ []
+    pub no_thefts : v.stolen ≡ []
 
   abbrev pub Knows : View → ℕ → Type 0
   Knows v m = key_of m v.own ≡ Some (own_of c.own m)
 
   -- he knows the keys on which a deed of this service for this reader relies
   pub record KnowsThree (v : View) (service reader : ℕ) : Type 0 where
-    pub of-service : Knows v service
-    pub of-house : Knows v 0
+    pub of_service : Knows v service
+    pub of_house : Knows v 0
     pub of_reader : reader < length c.own → Knows v reader
 
   -- own keys have the names of numbers that have them, as where each is named by the first such number

@@ -40,8 +40,8 @@ module _ (c : Setting) (n : Naming c.own) where
   -- these of the three own keys had been stolen, and one at least
   pub record RobbedOf (d : Deed) (reader service house : Bool) : Type 0 where
     pub of_reader : d.reader < length c.own → reader ≡ is_in (n.key_of d.reader) d.stolen
-    pub of-service : service ≡ is_in (n.key_of d.service) d.stolen
-    pub of-house : house ≡ is_in (n.key_of 0) d.stolen
+    pub of_service : service ≡ is_in (n.key_of d.service) d.stolen
+    pub of_house : house ≡ is_in (n.key_of 0) d.stolen
     pub one : (reader || (service || house)) ≡ true
 
   -- asked: a line accounts for it; else every line that could was spent by a deed before;
@@ -50,7 +50,7 @@ module _ (c : Setting) (n : Naming c.own) where
     pub asked : (k t : ℕ) → r ≡ Asked k t → AskedBy v xs d k t
     pub spent : ((k t : ℕ) → r ≢ Asked k t) → (k : ℕ) (w : Wanted) → IsLine k w (heard_lines xs) → For c n d w → Names k (verdicts v xs)
     pub stolen : (x y z : Bool) → r ≡ Stolen x y z → RobbedOf d x y z
-    pub not-asked : r ≡ NotAsked → FirstNamed c n → SafeDeed c n d
+    pub not_asked : r ≡ NotAsked → FirstNamed c n → SafeDeed c n d
 
   -- Of each deed that is heard in order the verdict means what it says.
   abbrev pub Meaning : Type 0

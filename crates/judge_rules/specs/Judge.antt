@@ -58,14 +58,14 @@ abbrev pub seen : Judge → View
 seen j = record { lag = j.lag; own = vec_items j.principals; lines = map plain (vec_items j.lines); stolen = vec_items j.stolen }
 
 -- the judge with other lines, other thefts, other principals
-abbrev pub with-lines : List Noted → View → View
-with-lines ls v = record { lag = v.lag; own = v.own; lines = ls; stolen = v.stolen }
+abbrev pub with_lines : List Noted → View → View
+with_lines ls v = record { lag = v.lag; own = v.own; lines = ls; stolen = v.stolen }
 
-abbrev pub with-stolen : List Key → View → View
-with-stolen ks v = record { lag = v.lag; own = v.own; lines = v.lines; stolen = ks }
+abbrev pub with_stolen : List Key → View → View
+with_stolen ks v = record { lag = v.lag; own = v.own; lines = v.lines; stolen = ks }
 
-abbrev pub with-own : List Principal → View → View
-with-own ps v = record { lag = v.lag; own = ps; lines = v.lines; stolen = v.stolen }
+abbrev pub with_own : List Principal → View → View
+with_own ps v = record { lag = v.lag; own = ps; lines = v.lines; stolen = v.stolen }
 
 -- at the start the house alone has a key
 abbrev pub fresh : ℕ → Key → View
@@ -122,14 +122,14 @@ verdict v a = said (oldest v.lag a 0 v.lines) (unasked (robbed v a.reader) (robb
 
 -- the line that accounts for it is spent; nothing else changes
 abbrev pub judged : View → Act → View
-judged v a = with-lines (spend v.lag a v.lines) v
+judged v a = with_lines (spend v.lag a v.lines) v
 
 -- a new line, not spent
 abbrev pub line_of : (reader service : ℕ) → List ℕ → ℕ → Noted
 line_of r s ws t = record { reader = r; service = s; words = ws; at = t; spent = false }
 
 abbrev pub noted : View → Noted → View
-noted v l = with-lines (v.lines ++ l ∷ []) v
+noted v l = with_lines (v.lines ++ l ∷ []) v
 
 abbrev pub with_key : Option Key → List Key → List Key
 with_key None ks = ks
@@ -137,7 +137,7 @@ with_key (Some k) ks = ks ++ k ∷ []
 
 -- the theft of a number that has no own key is nothing
 abbrev pub stole : View → ℕ → View
-stole v m = with-stolen (with_key (key_of m v.own) v.stolen) v
+stole v m = with_stolen (with_key (key_of m v.own) v.stolen) v
 
 abbrev pub joined : View → Principal → View
-joined v p = with-own (v.own ++ p ∷ []) v
+joined v p = with_own (v.own ++ p ∷ []) v

@@ -2,7 +2,7 @@
 --
 -- more k          one more, as far as 64 bits go
 -- counted r t     the counts with one deed more, of which the judge said r
--- total_of rs      the counts of these verdicts, the newest first
+-- total_of rs     the counts of these verdicts, the newest first
 use Rattle.std.specs.Prelude.{ℕ, ◌+◌, min, List, [], ◌∷◌}
 use Rattle.judge_rules.specs.declared.record.Verdict.{Verdict}
 use Rattle.judge_rules.specs.declared.record.Verdict.TheVariants.{Asked, NotAsked, Stolen}

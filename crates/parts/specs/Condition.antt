@@ -1,7 +1,7 @@
 -- Tables of conditions, and the first that fails. Assumes nothing.
 --
 -- row f b            this fault, if b
--- first_fault rows    the fault of the first row that fails
+-- first_fault rows   the fault of the first row that fails
 -- ascends rows       the rows stand in the order of their faults' numbers
 -- unless o x f       x where nothing is wrong, else f of the fault
 -- Lowest rows o      o is the lowest fault of the rows that fail, and nothing where none fails

@@ -1,6 +1,6 @@
 -- Drawn bytes as what they are taken for. Assumes nothing.
 --
--- number_of bs, salt_of bs    the first 16 of the bytes
+-- number_of bs, salt_of bs   the first 16 of the bytes
 -- key_of bs                  the first 32
 use Rattle.std.specs.Prelude.{ℕ, List, take}
 use Rattle.parts.specs.declared.word.Key.{Key}

@@ -4,7 +4,7 @@
 -- over now until      a ticket good until then is over now
 -- live now lag at     what was done at that tick is still remembered now
 -- clock now to        what a side at now does when it is told the tick to
--- tick_fault           the fault of a tick that is not obeyed
+-- tick_fault          the fault of a tick that is not obeyed
 use Rattle.std.specs.Prelude.{ℕ, ◌-◌, ◌^◌, Bool, cond, ◌&&◌, Some, None, Option, nat_le, nat_lt}
 use Rattle.parts.specs.declared.fault.Fault.{Fault}
 use Rattle.parts.specs.declared.fault.Fault.TheVariants.{OutOfRange}

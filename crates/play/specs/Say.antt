@@ -1,7 +1,7 @@
 -- The lines that a town prints, each as what stands behind a text then. Assumes nothing.
 --
--- then_number t n, then_hex t bs, then_side t s   a space, and a number, bytes in hex, or a side's name
--- then_numbers t ns                             numbers, each after a space
+-- then_number t n, then_hex t bs, then_side t s  a space, and a number, bytes in hex, or a side's name
+-- then_numbers t ns                              numbers, each after a space
 -- word_line, done_line, ..                       whole lines
 use Rattle.std.specs.Prelude.{ℕ, Bool, cond, List, [], ◌∷◌, ◌++◌, Some, None, codes, decimal, Option}
 use Rattle.commands.specs.declared.line.Side.{Side}

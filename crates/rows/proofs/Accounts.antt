@@ -8,7 +8,7 @@ use Rattle.parts.specs.declared.account.Account.TheVariants.{Absent, Open, Close
 use Rattle.parts.specs.declared.fault.Fault.TheVariants.{Unknown}
 use Rattle.parts.specs.declared.word.Key.{Key}
 use Rattle.service_rules.specs.Service.{nobody}
-use Rattle.house_rules.specs.Account.{account_of, is_absent, is_closed as isShut, key_in, unknown, closed}
+use Rattle.house_rules.specs.Account.{account_of, is_absent, is_closed as is_shut, key_in, unknown, closed}
 use Rattle.house_rules.specs.Change.{changed, opened_from, opened_after, shut_from, shut_after, closed_of}
 use Rattle.house_rules.specs.declared.change.Changed.TheVariants.{Refused}
 use Rattle.tickets.specs.State.{Closing, State, is_closed}
@@ -19,7 +19,7 @@ use Rattle.tickets.proofs.Reached.{reached, change}
 use Rattle.tickets.proofs.Bools.{clash, either}
 use Rattle.rows.specs.Name.{Naming, own_of}
 use Rattle.rows.specs.Setting.{Setting, rules_of}
-use Rattle.rows.specs.System.{System, with-home, home-accounts, OwnKeyTold}
+use Rattle.rows.specs.System.{System, with_home, home_accounts, OwnKeyTold}
 use Rattle.rows.specs.Row.{Wanted, Deed, Given, Begun, Taken}
 use Rattle.rows.proofs.Pairs.{down-more}
 use Rattle.rows.proofs.Noting.{notes-later}
@@ -52,16 +52,16 @@ there-set xs k a h = go (dec_lt k (length xs))
 
 module _ (c : Setting) (n : Naming c.own) {K : List Closing} {p : ℕ} {s : System} {ls : List Wanted} {gs : List Given} {bs : List Begun} {ds : List Deed} {xs : List Taken} (o : Tied c n K p s ls gs bs ds xs) where
   -- the accounts as they were
-  same-accounts : Tied c n K (suc p) (with-home (home-accounts s.home.accounts s.home) s) ls gs bs ds xs
+  same-accounts : Tied c n K (suc p) (with_home (home_accounts s.home.accounts s.home) s) ls gs bs ds xs
   same-accounts =
       unseen c n o _
       (matches-home c n s o.model _ o.matches
       (record {
-        now-is = o.matches.home.now-is;
-        lag-is = o.matches.home.lag-is;
+        now_is = o.matches.home.now_is;
+        lag_is = o.matches.home.lag_is;
         number_is = o.matches.home.number_is;
-        life-is = o.matches.home.life-is;
-        key-is = o.matches.home.key-is;
+        life_is = o.matches.home.life_is;
+        key_is = o.matches.home.key_is;
         accounts = o.matches.home.accounts;
         is_open = o.matches.home.is_open;
         is-closed = o.matches.home.is-closed;
@@ -70,16 +70,16 @@ module _ (c : Setting) (n : Naming c.own) {K : List Closing} {p : ℕ} {s : Syst
 
   -- a new account
   open-account : (k : ℕ) (key : Key) → OwnKeyTold c n k key → account_of s.home.accounts k ≡ Absent
-      → Tied c n K (suc p) (with-home (home-accounts (set s.home.accounts k (Open key)) s.home) s) ls gs bs ds xs
+      → Tied c n K (suc p) (with_home (home_accounts (set s.home.accounts k (Open key)) s.home) s) ls gs bs ds xs
   open-account k key told absent =
       unseen c n o _
       (matches-home c n s o.model _ o.matches
       (record {
-        now-is = o.matches.home.now-is;
-        lag-is = o.matches.home.lag-is;
+        now_is = o.matches.home.now_is;
+        lag_is = o.matches.home.lag_is;
         number_is = o.matches.home.number_is;
-        life-is = o.matches.home.life-is;
-        key-is = o.matches.home.key-is;
+        life_is = o.matches.home.life_is;
+        key_is = o.matches.home.key_is;
         accounts = λ j h. account j h (set-account s.home.accounts k j (Open key));
         is_open = λ j h. opened-so j h (set-account s.home.accounts k j (Open key));
         is-closed = λ j h. closed-so j h (set-account s.home.accounts k j (Open key));
@@ -102,21 +102,21 @@ module _ (c : Setting) (n : Naming c.own) {K : List Closing} {p : ℕ} {s : Syst
           → ((j ≡ k) × (account_of (set s.home.accounts k (Open key)) j ≡ Open key)) ⊎ (account_of (set s.home.accounts k (Open key)) j ≡ account_of s.home.accounts j)
           → is_closed j o.model.closed ≡ false
       opened-so j h (inl e) =
-          o.matches.home.is_open j (subst (λ (i : ℕ). closed s.home.accounts i ≡ false) (sym e.0) (ap (λ (x : Account). isShut x) absent))
-      opened-so j h (inr e) = o.matches.home.is_open j (ap (λ (x : Account). isShut x) (sym e) ∙ h)
+          o.matches.home.is_open j (subst (λ (i : ℕ). closed s.home.accounts i ≡ false) (sym e.0) (ap (λ (x : Account). is_shut x) absent))
+      opened-so j h (inr e) = o.matches.home.is_open j (ap (λ (x : Account). is_shut x) (sym e) ∙ h)
 
       closed-so : (j : ℕ) → closed (set s.home.accounts k (Open key)) j ≡ true
           → ((j ≡ k) × (account_of (set s.home.accounts k (Open key)) j ≡ Open key)) ⊎ (account_of (set s.home.accounts k (Open key)) j ≡ account_of s.home.accounts j)
           → ClosedBy c n o.model j
-      closed-so j h (inl e) = absurd (clash h (ap (λ (x : Account). isShut x) e.1))
-      closed-so j h (inr e) = o.matches.home.is-closed j (ap (λ (x : Account). isShut x) (sym e) ∙ h)
+      closed-so j h (inl e) = absurd (clash h (ap (λ (x : Account). is_shut x) e.1))
+      closed-so j h (inr e) = o.matches.home.is-closed j (ap (λ (x : Account). is_shut x) (sym e) ∙ h)
 
   pub opens_one : (k : ℕ) (key : Key) (w : Bool) → OwnKeyTold c n k key
-      → Tied c n K (suc p) (with-home (home-accounts (opened_after s.home.accounts k key w) s.home) s) ls gs bs ds xs
+      → Tied c n K (suc p) (with_home (home_accounts (opened_after s.home.accounts k key w) s.home) s) ls gs bs ds xs
   opens_one k key w told = go (nobody k) (account_of s.home.accounts k) w refl
     where
       go : (b : Bool) (a : Account) (w : Bool) → account_of s.home.accounts k ≡ a
-          → Tied c n K (suc p) (with-home (home-accounts (changed s.home.accounts k (Open key) (cond b (Refused Unknown) (opened_from a w))) s.home) s) ls gs bs ds xs
+          → Tied c n K (suc p) (with_home (home_accounts (changed s.home.accounts k (Open key) (cond b (Refused Unknown) (opened_from a w))) s.home) s) ls gs bs ds xs
       go true a w e = same-accounts
       go false Absent true e = open-account k key told e
       go false Absent false e = same-accounts
@@ -125,7 +125,7 @@ module _ (c : Setting) (n : Naming c.own) {K : List Closing} {p : ℕ} {s : Syst
 
   -- an account is closed
   close-account : (k : ℕ) (key : Key) → nobody k ≡ false → account_of s.home.accounts k ≡ Open key
-      → Tied c n K (suc p) (with-home (home-accounts (set s.home.accounts k (Closed key)) s.home) s) ls gs bs ds xs
+      → Tied c n K (suc p) (with_home (home_accounts (set s.home.accounts k (Closed key)) s.home) s) ls gs bs ds xs
   unfolding is_closed
   close-account k key somebody is_open =
       record {
@@ -137,11 +137,11 @@ module _ (c : Setting) (n : Naming c.own) {K : List Closing} {p : ℕ} {s : Syst
               net = record { air = o.matches.net.air; next = o.matches.net.next; stolen = o.matches.net.stolen };
               home =
                   record {
-                    now-is = o.matches.home.now-is;
-                    lag-is = o.matches.home.lag-is;
+                    now_is = o.matches.home.now_is;
+                    lag_is = o.matches.home.lag_is;
                     number_is = o.matches.home.number_is;
-                    life-is = o.matches.home.life-is;
-                    key-is = o.matches.home.key-is;
+                    life_is = o.matches.home.life_is;
+                    key_is = o.matches.home.key_is;
                     accounts = λ j h. account j h (set-account s.home.accounts k j (Closed key));
                     is_open = λ j h. opened-so j h (either (eqb k j)) (set-account s.home.accounts k j (Closed key));
                     is-closed = λ j h. closed-so j h (set-account s.home.accounts k j (Closed key));
@@ -156,8 +156,8 @@ module _ (c : Setting) (n : Naming c.own) {K : List Closing} {p : ℕ} {s : Syst
         deeds = deeds-stay c n ls ls o.model t g.grows (λ w l h. h) o.deeds;
         takens = o.takens;
         since = λ x h. Memᴰ.tail (o.since x h);
-        low-lines = down-more (λ (w : Wanted). w.place) p (suc p) ls (omega arith) o.low-lines;
-        low-keys = down-more (λ (g : Given). g.place) p (suc p) gs (omega arith) o.low-keys;
+        low_lines = down-more (λ (w : Wanted). w.place) p (suc p) ls (omega arith) o.low_lines;
+        low_keys = down-more (λ (g : Given). g.place) p (suc p) gs (omega arith) o.low_keys;
       }
     where
       t : State
@@ -187,24 +187,24 @@ module _ (c : Setting) (n : Naming c.own) {K : List Closing} {p : ℕ} {s : Syst
           absurd
           (clash
           (subst (λ (i : ℕ). closed (set s.home.accounts k (Closed key)) i ≡ true) (eqb-true k j e)
-          (ap (λ (x : Account). isShut x) (there-set s.home.accounts k (Closed key) (ap (λ (x : Account). is_absent x) is_open)))) h)
-      opened-so j h (inr e) (inl z) = absurd (clash (ap (λ (x : Account). isShut x) z.1) h)
+          (ap (λ (x : Account). is_shut x) (there-set s.home.accounts k (Closed key) (ap (λ (x : Account). is_absent x) is_open)))) h)
+      opened-so j h (inr e) (inl z) = absurd (clash (ap (λ (x : Account). is_shut x) z.1) h)
       opened-so j h (inr e) (inr z) =
-          subst (λ (b : Bool). (b || is_closed j o.model.closed) ≡ false) (sym e) (o.matches.home.is_open j (ap (λ (x : Account). isShut x) (sym z) ∙ h))
+          subst (λ (b : Bool). (b || is_closed j o.model.closed) ≡ false) (sym e) (o.matches.home.is_open j (ap (λ (x : Account). is_shut x) (sym z) ∙ h))
 
       closed-so : (j : ℕ) → closed (set s.home.accounts k (Closed key)) j ≡ true
           → ((j ≡ k) × (account_of (set s.home.accounts k (Closed key)) j ≡ Closed key)) ⊎ (account_of (set s.home.accounts k (Closed key)) j ≡ account_of s.home.accounts j)
           → ClosedBy c n t j
       closed-so j h (inl e) = record { closing = record { who = k; at = o.model.now }; known = Memᴰ.head refl; whose = sym e.0; past = omega arith }
       closed-so j h (inr e) =
-          let old = o.matches.home.is-closed j (ap (λ (x : Account). isShut x) (sym e) ∙ h) in
+          let old = o.matches.home.is-closed j (ap (λ (x : Account). is_shut x) (sym e) ∙ h) in
           record { closing = old.closing; known = Memᴰ.tail old.known; whose = old.whose; past = old.past }
 
-  pub closes-one : (k : ℕ) (w : Bool) → Tied c n K (suc p) (with-home (home-accounts (shut_after s.home.accounts k w) s.home) s) ls gs bs ds xs
+  pub closes-one : (k : ℕ) (w : Bool) → Tied c n K (suc p) (with_home (home_accounts (shut_after s.home.accounts k w) s.home) s) ls gs bs ds xs
   closes-one k w = go (nobody k) (account_of s.home.accounts k) w refl refl
     where
       go : (b : Bool) (a : Account) (w : Bool) → nobody k ≡ b → account_of s.home.accounts k ≡ a
-          → Tied c n K (suc p) (with-home (home-accounts (changed s.home.accounts k (closed_of a) (cond b (Refused Unknown) (shut_from a w))) s.home) s) ls gs bs ds xs
+          → Tied c n K (suc p) (with_home (home_accounts (changed s.home.accounts k (closed_of a) (cond b (Refused Unknown) (shut_from a w))) s.home) s) ls gs bs ds xs
       go true a w d e = same-accounts
       go false Absent w d e = same-accounts
       go false (Open x) true d e = close-account k x d e

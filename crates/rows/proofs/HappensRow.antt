@@ -20,7 +20,7 @@ n =
       name = name_of setting.own draws;
       key_of = key_name setting.own draws;
       apart = name-apart setting.own draws;
-      of-own = own-named setting.own draws;
+      of_own = own-named setting.own draws;
     }
 
 reader : Alone setting n 1
@@ -35,11 +35,11 @@ before-can = (tt, (tt, (tt, (record { there = omega arith; own = refl }, (record
 begun-can : Possible setting n 10 begun
 unfolding first_fault own_name draw_name
 begun-can = (
-  record { reader = reader; letter-heard = has (Memᴰ.tail (Memᴰ.head refl)); new = refl },
+  record { reader = reader; letter_heard = has (Memᴰ.tail (Memᴰ.head refl)); new = refl },
   (
     record { ticket = has (Memᴰ.tail (Memᴰ.head refl)); asking = has (Memᴰ.head refl); new = refl },
     (
-      record { reader = reader; letter-heard = has (Memᴰ.tail (Memᴰ.head refl)); new = refl },
+      record { reader = reader; letter_heard = has (Memᴰ.tail (Memᴰ.head refl)); new = refl },
       (
         record { reader = reader; login = has (Memᴰ.head refl); new = refl },
         (record { reader = reader; new = refl }, (tt, (omega arith, before-can))),
@@ -58,13 +58,13 @@ happens-can = (
     (
       tt,
       (
-        record { a-service = λ e. omega arith; there = omega arith; ticket = has (Memᴰ.tail (Memᴰ.tail (Memᴰ.head refl))); asking = has (Memᴰ.tail (Memᴰ.head refl)) },
+        record { a_service = λ e. omega arith; there = omega arith; ticket = has (Memᴰ.tail (Memᴰ.tail (Memᴰ.head refl))); asking = has (Memᴰ.tail (Memᴰ.head refl)) },
         (
-          record { a-service = λ e. omega arith; there = omega arith; ticket = has (Memᴰ.tail (Memᴰ.head refl)); asking = has (Memᴰ.head refl) },
+          record { a_service = λ e. omega arith; there = omega arith; ticket = has (Memᴰ.tail (Memᴰ.head refl)); asking = has (Memᴰ.head refl) },
           (
             tt,
             (
-              record { a-service = λ e. omega arith; there = omega arith; ticket = has (Memᴰ.tail (Memᴰ.head refl)); asking = has (Memᴰ.head refl) },
+              record { a_service = λ e. omega arith; there = omega arith; ticket = has (Memᴰ.tail (Memᴰ.head refl)); asking = has (Memᴰ.head refl) },
               begun-can,
             ),
           ),
@@ -82,13 +82,13 @@ ready-before =
       reader = reader;
       known = refl;
       is_open = refl;
-      service-known = refl;
+      service_known = refl;
       words = omega arith;
-      house-at-work = record { awake = refl; writes = refl; room = omega arith; drawn = omega arith };
-      at-work = record { awake = refl; writes = refl; room = omega arith; drawn = omega arith };
-      box-at-work = record { drawn = omega arith; lines = omega arith; tickets = omega arith };
+      house_at_work = record { awake = refl; writes = refl; room = omega arith; drawn = omega arith };
+      at_work = record { awake = refl; writes = refl; room = omega arith; drawn = omega arith };
+      box_at_work = record { drawn = omega arith; lines = omega arith; tickets = omega arith };
       draws = (refl, (refl, (refl, (refl, (refl, tt)))));
-      house-digest = refl;
+      house_digest = refl;
       digest = refl;
     }
 
@@ -104,6 +104,6 @@ can-happen =
       again = refl;
       is-closed = refl;
       stolen = refl;
-      before-possible = before-can;
+      before_possible = before-can;
       ready = ready-before;
     }

@@ -15,14 +15,14 @@ use Rattle.tickets.proofs.Known.{Grows}
 use Rattle.rows.specs.Name.{Naming, own_of, spell}
 use Rattle.rows.specs.Word.{words_of}
 use Rattle.rows.specs.Setting.{Setting}
-use Rattle.rows.specs.System.{System, Box, box-now}
-use Rattle.box_rules.specs.Chest.{set_tick as boxTick}
+use Rattle.rows.specs.System.{System, Box, box_now}
+use Rattle.box_rules.specs.Chest.{set_tick as box_tick}
 use Rattle.parts.specs.declared.tick.Ticked.{Ticked}
 use Rattle.rows.proofs.Noting.{Notes, notes-later}
 
 -- a box at the tick that it was told
 abbrev pub told_box : Box → ℕ → Ticked → Box
-told_box b to k = box-now (boxTick b to k) b
+told_box b to k = box_now (box_tick b to k) b
 
 module _ (c : Setting) (n : Naming c.own) where
   -- an account was closed by now
@@ -37,19 +37,19 @@ module _ (c : Setting) (n : Naming c.own) where
     pub own : own_key xs k ≡ own_of c.own k
 
   pub record HomeOk (m : State) (h : Home) : Type 0 where
-    pub now-is : h.side.now ≡ m.now
-    pub lag-is : h.side.lag ≡ c.lag
+    pub now_is : h.side.now ≡ m.now
+    pub lag_is : h.side.lag ≡ c.lag
     pub number_is : h.side.number ≡ 0
-    pub life-is : h.life ≡ c.life
-    pub key-is : h.key ≡ own_of c.own 0
+    pub life_is : h.life ≡ c.life
+    pub key_is : h.key ≡ own_of c.own 0
     pub accounts : (k : ℕ) → unknown h.accounts k ≡ false → AccountOk h.accounts k
     pub is_open : (k : ℕ) → closed h.accounts k ≡ false → is_closed k m.closed ≡ false
     pub is-closed : (k : ℕ) → closed h.accounts k ≡ true → ClosedBy m k
     pub notes : Notes c n m 0 h.side.wake h.junk h.kept
 
   pub record SideOk (m : State) (v : ℕ) (w : View) : Type 0 where
-    pub now-is : w.side.now ≡ m.now
-    pub lag-is : w.side.lag ≡ c.lag
+    pub now_is : w.side.now ≡ m.now
+    pub lag_is : w.side.lag ≡ c.lag
     pub number_is : w.side.number ≡ v
     pub notes : Notes c n m v w.side.wake w.junk w.kept
 
@@ -79,8 +79,8 @@ module _ (c : Setting) (n : Naming c.own) where
     pub key : asked.key ≡ n.name h.pass.key.0
 
   pub record BoxOk (m : State) (a : ℕ) (b : Box) : Type 0 where
-    pub now-is : b.now ≡ m.now
-    pub key-is : b.key ≡ own_of c.own a
+    pub now_is : b.now ≡ m.now
+    pub key_is : b.key ≡ own_of c.own a
     pub logins : (p : Pending) → Memᴰ p b.logins → PendingOk m a LoggingIn p
     pub askings : (p : Pending) → Memᴰ p b.askings → p.asks ≡ 0 → PendingOk m a AskingHouse p
     pub tickets : (h : Held (Unit {0})) → Memᴰ h b.tickets → TicketOk m a h
@@ -116,11 +116,11 @@ module _ (c : Setting) (n : Naming c.own) {m t : State} where
       → HomeOk c n m h → HomeOk c n t h
   home_stays h same old cl o =
       record {
-        now-is = o.now-is ∙ sym same;
-        lag-is = o.lag-is;
+        now_is = o.now_is ∙ sym same;
+        lag_is = o.lag_is;
         number_is = o.number_is;
-        life-is = o.life-is;
-        key-is = o.key-is;
+        life_is = o.life_is;
+        key_is = o.key_is;
         accounts = o.accounts;
         is_open = λ k e. subst (λ (x : List Closing). is_closed k x ≡ false) (sym cl) (o.is_open k e);
         is-closed =
@@ -132,8 +132,8 @@ module _ (c : Setting) (n : Naming c.own) {m t : State} where
       → SideOk c n m v w → SideOk c n t v w
   side-stays v w same old o =
       record {
-        now-is = o.now-is ∙ sym same;
-        lag-is = o.lag-is;
+        now_is = o.now_is ∙ sym same;
+        lag_is = o.lag_is;
         number_is = o.number_is;
         notes = notes-later c n m t v w.side.wake w.junk w.kept (omega arith) old o.notes;
       }
@@ -161,8 +161,8 @@ module _ (c : Setting) (n : Naming c.own) {m t : State} where
       → ((p : Pending) (g : Stage) → (o : PendingOk c n m a g p) → is_in o.wish.number t.taken ≡ false) → BoxOk c n m a b → BoxOk c n t a b
   box-stays a b same g free o =
       record {
-        now-is = o.now-is ∙ sym same;
-        key-is = o.key-is;
+        now_is = o.now_is ∙ sym same;
+        key_is = o.key_is;
         logins = λ p h. let x = o.logins p h in pending-stays a LoggingIn p g.wishes x (free p LoggingIn x);
         askings = λ p h e. let x = o.askings p h e in pending-stays a AskingHouse p g.wishes x (free p AskingHouse x);
         tickets = λ h k. ticket-stays a h g.asked (o.tickets h k);

@@ -129,7 +129,7 @@ module _ (own : List Key) (ds : List Bytes) where
       go None e t = absurd (let f = t.1 in let z : ◌≡◌ {A = ℕ} 0 1 = cc in omega arith)
 
   pub naming : Naming own
-  naming = record { name = name_of own ds; key_of = key_name; apart = name-apart; of-own = own-named }
+  naming = record { name = name_of own ds; key_of = key_name; apart = name-apart; of_own = own-named }
 
 -- a draw that comes later is another
 later-other : (own : List Key) (later earlier : List Bytes) (d x : Bytes) → draw_name (later ++ (d ∷ earlier)) x ≡ None → bytes_eq x d ≡ true → ⊥

@@ -21,8 +21,8 @@ use Rattle.rows.specs.Setting.{Setting, Writing, rules_of}
 pub record Noted (c : Setting) (n : Naming c.own) (es : List Entry) (d : Done) : Type 0 where
   pub key : Key
   pub number : Number
-  pub key-named : n.name key.0 ≡ d.key
-  pub number-named : n.name number.0 ≡ d.number
+  pub key_named : n.name key.0 ≡ d.key
+  pub number_named : n.name number.0 ≡ d.number
   pub stands-in : Memᴰ (record { digest = c.digest key number; tick = d.at }) es
 
 -- each deed of a side that could still be asked again is noted, or the side waits until it is too old, and knows why
@@ -59,8 +59,8 @@ noted-recorded c n now dg es d h o =
     record {
       key = o.key;
       number = o.number;
-      key-named = o.key-named;
-      number-named = o.number-named;
+      key_named = o.key_named;
+      number_named = o.number_named;
       stands-in = Memᴰ.append_left _ (kept_there (λ (e : Entry). live now c.lag e.tick) es _ o.stands-in (live-from now c.lag d.at h));
     }
 
@@ -71,8 +71,8 @@ noted-new c n now es d k x e f t =
     record {
       key = k;
       number = x;
-      key-named = e;
-      number-named = f;
+      key_named = e;
+      number_named = f;
       stands-in =
           Memᴰ.append_right (live_of now c.lag es)
           (Memᴰ.head (ap (λ (y : ℕ). record { digest = c.digest k x; tick = y }) t));
@@ -86,8 +86,8 @@ not_new c n m v wake junk es k x notes b = go (notes.of b.deed b.known b.at-serv
     go : Noted c n es b.deed ⊎ ((b.deed.at + c.lag < wake) × (junk ≡ true)) → (stands (c.digest k x) (live_of m.now c.lag es) ≡ true) ⊎ (m.now < wake)
     go (inr p) = inr (let q = p.0 in let r = b.remembered in omega arith)
     go (inl o) =
-        let ek : o.key.0 ≡ k.0 = n.apart _ _ (o.key-named ∙ b.same_key) in
-        let ex : o.number.0 ≡ x.0 = n.apart _ _ (o.number-named ∙ b.same_number) in
+        let ek : o.key.0 ≡ k.0 = n.apart _ _ (o.key_named ∙ b.same_key) in
+        let ex : o.number.0 ≡ x.0 = n.apart _ _ (o.number_named ∙ b.same_number) in
         let fk : o.key ≡ k = ap (λ (y : Bytes). record { 0 = y }) ek in
         let fx : o.number ≡ x = ap (λ (y : Bytes). record { 0 = y }) ex in
         let there = kept_there (λ (e : Entry). live m.now c.lag e.tick) es _ o.stands-in (live-from m.now c.lag b.deed.at b.remembered) in

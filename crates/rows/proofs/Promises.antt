@@ -5,12 +5,12 @@ use mathlib.Core.List.{Memᴰ}
 use Rattle.parts.specs.declared.account.Account.{Account}
 use Rattle.parts.specs.declared.account.Account.TheVariants.{Absent}
 use Rattle.service_rules.specs.Service.{nobody}
-use Rattle.house_rules.specs.Account.{account_of, is_absent, is_closed as isShut}
+use Rattle.house_rules.specs.Account.{account_of, is_absent, is_closed as is_shut}
 use Rattle.tickets.specs.Term.{Term, Gets}
 use Rattle.tickets.specs.State.{Line, LoggingIn, Done, Closing, State, Safe, is_in, is_closed, start}
 use Rattle.tickets.specs.Event.{Event, Reach}
 use Rattle.tickets.specs.Event as events
-use Rattle.tickets.specs.Promise.{by-reader}
+use Rattle.tickets.specs.Promise.{by_reader}
 use Rattle.tickets.proofs.Bools.{clash, or_right}
 use Rattle.tickets.proofs.Main.{main}
 use Rattle.rows.specs.Name.{Naming}
@@ -56,21 +56,21 @@ module _ (c : Setting) (n : Naming c.own) where
               net = record { air = λ x h. absurd (Memᴰ.not-nil h); next = refl; stolen = refl };
               home =
                   record {
-                    now-is = omega arith;
-                    lag-is = refl;
+                    now_is = omega arith;
+                    lag_is = refl;
                     number_is = refl;
-                    life-is = refl;
-                    key-is = refl;
+                    life_is = refl;
+                    key_is = refl;
                     accounts = λ k h. absurd (clash (or_right (nobody k) (is_absent (account_of (replicate 1024 Absent) k)) (ap (λ (x : Account). is_absent x) (none-absent 1024 k))) h);
                     is_open = λ k h. refl;
-                    is-closed = λ k h. absurd (clash h (ap (λ (x : Account). isShut x) (none-absent 1024 k)));
+                    is-closed = λ k h. absurd (clash h (ap (λ (x : Account). is_shut x) (none-absent 1024 k)));
                     notes = record { of = λ d h. absurd (Memᴰ.not-nil h) };
                   };
-              side = λ v z. record { now-is = omega arith; lag-is = refl; number_is = refl; notes = record { of = λ d h. absurd (Memᴰ.not-nil h) } };
+              side = λ v z. record { now_is = omega arith; lag_is = refl; number_is = refl; notes = record { of = λ d h. absurd (Memᴰ.not-nil h) } };
               box =
                   λ a. record {
-                    now-is = omega arith;
-                    key-is = refl;
+                    now_is = omega arith;
+                    key_is = refl;
                     logins = λ q h. absurd (Memᴰ.not-nil h);
                     askings = λ q h. absurd (Memᴰ.not-nil h);
                     tickets = λ q h. absurd (Memᴰ.not-nil h);
@@ -82,8 +82,8 @@ module _ (c : Setting) (n : Naming c.own) where
         deeds = pairs.Among.none;
         takens = λ x h. absurd (Memᴰ.not-nil h);
         since = λ x h. absurd (Memᴰ.not-nil h);
-        low-lines = tt;
-        low-keys = tt;
+        low_lines = tt;
+        low_keys = tt;
       }
 
   -- one act more
@@ -118,19 +118,19 @@ module _ (c : Setting) (n : Naming c.own) where
 record Wit (c : Setting) (n : Naming c.own) (ls : List Wanted) (m : State) (es : List Done) (d : Deed) : Type 0 where
   deed : Done
   stands : Memᴰ deed es
-  same-deed : SameDeed c n d deed
+  same_deed : SameDeed c n d deed
   fact : LineFact c n ls m d deed
 
 module _ (c : Setting) (n : Naming c.own) {ls : List Wanted} {m : State} where
   lift : {es : List Done} {d : Deed} (e : Done) → Wit c n ls m es d → Wit c n ls m (e ∷ es) d
-  lift e w = record { deed = w.deed; stands = Memᴰ.tail w.stands; same-deed = w.same-deed; fact = w.fact }
+  lift e w = record { deed = w.deed; stands = Memᴰ.tail w.stands; same_deed = w.same_deed; fact = w.fact }
 
   at_head : {es : List Done} (a : Deed) (e : Done) → DeedFact c n ls m a e → (d : Deed) → d ≡ a → SafeDeed c n d → Wit c n ls m (e ∷ es) d
   at_head a e f d i w =
       record {
         deed = e;
         stands = Memᴰ.head refl;
-        same-deed = subst (λ (x : Deed). SameDeed c n x e) (sym i) f.same-deed;
+        same_deed = subst (λ (x : Deed). SameDeed c n x e) (sym i) f.same_deed;
         fact = subst (λ (x : Deed). SafeDeed c n x → LineFact c n ls m x e) (sym i) f.from w;
       }
 
@@ -151,10 +151,10 @@ module _ (c : Setting) (n : Naming c.own) {K : List Closing} {p : ℕ} {s : Syst
   apart : (pre es : List Done) (b : Done) → o.model.done ≡ pre ++ (b ∷ es) → (d e : Deed) → (x : Wit c n ls o.model (b ∷ es) d) → x.deed ≡ b → SafeDeed c n d → (y : Wit c n ls o.model es e)
       → x.fact.line.place ≡ y.fact.line.place → ⊥
   apart pre es b split d e x head w y same =
-      let one : x.fact.asked.line ≡ y.fact.asked.line = at_one (λ (z : Wanted). z.place) p x.fact.beside y.fact.beside o.low-lines same in
+      let one : x.fact.asked.line ≡ y.fact.asked.line = at_one (λ (z : Wanted). z.place) p x.fact.beside y.fact.beside o.low_lines same in
       let split' : o.model.done ≡ pre ++ (x.deed ∷ es) = subst (λ (z : Done). o.model.done ≡ pre ++ (z ∷ es)) (sym head) split in
-      (main (rules_of c n) o.events o.model o.reach).once pre es x.deed y.deed split' y.stands (safe-so c n d x.deed x.same-deed w)
-      (by-reader x.fact.asked x.fact.answers x.fact.as_wanted) (by-reader y.fact.asked y.fact.answers y.fact.as_wanted)
+      (main (rules_of c n) o.events o.model o.reach).once pre es x.deed y.deed split' y.stands (safe-so c n d x.deed x.same_deed w)
+      (by_reader x.fact.asked x.fact.answers x.fact.as_wanted) (by_reader y.fact.asked y.fact.answers y.fact.as_wanted)
       (ap (λ (z : Line). z.id) one)
 
   once-wit : (pre : List Done) {ds : List Deed} {es : List Done} → o.model.done ≡ pre ++ es → (A : Among (DeedFact c n ls o.model) ds es) → (d e : Deed) (h : Memᴰ d ds) (k : Memᴰ e ds) (w : SafeDeed c n d) (u : SafeDeed c n e)
@@ -172,14 +172,14 @@ module _ (c : Setting) (n : Naming c.own) {K : List Closing} {p : ℕ} {s : Syst
       let l = pairs.at_pair o.lines x.fact.beside in
       let a = x.fact.answers in
       let w = x.fact.as_wanted in
-      let time = a.in-time in
+      let time = a.in_time in
       record {
-        reader = sym l.reader ∙ a.by-reader ∙ x.same-deed.reader;
-        service = sym l.service ∙ w.of-service ∙ a.of-service ∙ x.same-deed.service;
-        what = spell-apart _ _ (sym l.what ∙ w.in_words ∙ a.in_words ∙ x.same-deed.what);
+        reader = sym l.reader ∙ a.by_reader ∙ x.same_deed.reader;
+        service = sym l.service ∙ w.of_service ∙ a.of_service ∙ x.same_deed.service;
+        what = spell-apart _ _ (sym l.what ∙ w.in_words ∙ a.in_words ∙ x.same_deed.what);
         before = x.fact.before;
-        not-later = let i = l.at in let j = w.at_tick in let k = time.not-ahead in let u = x.same-deed.at in omega arith;
-        lately = let i = l.at in let j = w.at_tick in let k = time.not-old in let u = x.same-deed.at in omega arith;
+        not_later = let i = l.at in let j = w.at_tick in let k = time.not_ahead in let u = x.same_deed.at in omega arith;
+        lately = let i = l.at in let j = w.at_tick in let k = time.not_old in let u = x.same_deed.at in omega arith;
       }
 
   accounted : Accounted c n ls ds₀
@@ -215,14 +215,14 @@ module _ (c : Setting) (n : Naming c.own) where
       let x = m.0 in
       let u = m.1 in
       let b = pairs-at o.begun x u.known in
-      let time = u.in-time in (
+      let time = u.in_time in (
         b.0,
         at_first b.1,
-        login-stage b.0.login (sym b.2.stage ∙ u.at-login),
-        sym b.2.reader ∙ u.by-reader ∙ k.2.reader,
+        login-stage b.0.login (sym b.2.stage ∙ u.at_login),
+        sym b.2.reader ∙ u.by_reader ∙ k.2.reader,
         n.apart _ _ (sym b.2.number ∙ sym u.same_number ∙ k.2.number),
-        (let i = b.2.at in let j = k.2.at in let y = time.not-ahead in omega arith),
-        (let i = b.2.at in let j = k.2.at in let y = time.not-old in omega arith),
+        (let i = b.2.at in let j = k.2.at in let y = time.not_ahead in omega arith),
+        (let i = b.2.at in let j = k.2.at in let y = time.not_old in omega arith),
       )
     where
       login-stage : (b : Bool) → stage_of b ≡ LoggingIn → b ≡ true
@@ -246,8 +246,8 @@ module _ (c : Setting) (n : Naming c.own) where
         deeds = o.deeds;
         takens = o.takens;
         since = λ x h. h;
-        low-lines = o.low-lines;
-        low-keys = o.low-keys;
+        low_lines = o.low_lines;
+        low_keys = o.low_keys;
       }
 
   back : (t : ℕ) (fs es : List Act) → Possible c n t (fs ++ es) → Possible c n t es
@@ -267,7 +267,7 @@ module _ (c : Setting) (n : Naming c.own) where
       let x = o.matches.home.is-closed a shut in
       let u = tied-since t fs es k h in
       let e = among_of u.deeds d known in
-      let same = e.2.same-deed in
+      let same = e.2.same_deed in
       let m =
       (main (rules_of c n) u.events u.model u.reach).over x.closing e.0 (u.since x.closing x.known) e.1
       (same.reader ∙ reader ∙ sym x.whose)
@@ -275,7 +275,7 @@ module _ (c : Setting) (n : Naming c.own) where
       in
       let i = same.at in
       let j = x.past in
-      let l = o.matches.home.now-is in
+      let l = o.matches.home.now_is in
       omega arith
 
   pub is-run : IsRun c n
@@ -285,12 +285,12 @@ module _ (c : Setting) (n : Naming c.own) where
         o.model,
         record {
           reach = o.reach;
-          same-tick = o.matches.home.now-is;
-          same-thefts = o.matches.net.stolen;
+          same_tick = o.matches.home.now_is;
+          same_thefts = o.matches.net.stolen;
           sent = o.matches.net.air;
           done =
               λ d k. let e = among_of o.deeds d k in
-              let s = e.2.same-deed in
+              let s = e.2.same_deed in
               (e.0, e.1, s.service, s.reader, s.key, s.number, s.what, s.at);
         },
       )

@@ -17,7 +17,7 @@ use Rattle.tickets.proofs.Keep.{Change}
 use Rattle.tickets.proofs.Reached.{reached, change}
 use Rattle.rows.specs.Name.{Bytes, Naming, own_of}
 use Rattle.rows.specs.Setting.{Setting, Writing, rules_of}
-use Rattle.rows.specs.System.{System, Box, at, with-home, with-side, with-box, home-left, home-memory, box-left, empty_box, crashed_view, crashed_home, view_of, restarted}
+use Rattle.rows.specs.System.{System, Box, at, with_home, with-side, with_box, home_left, home_memory, box_left, empty_box, crashed_view, crashed_home, view_of, restarted}
 use Rattle.rows.specs.Row.{Wanted, Deed, Given, Begun, Taken}
 use Rattle.rows.proofs.Pairs.{down-more}
 use Rattle.rows.proofs.Noting.{Notes, notes-again}
@@ -34,7 +34,7 @@ at-cases {A} P k x f h j old = go (eqb j k) refl
 
 module _ (c : Setting) (n : Naming c.own) where
   -- with another house, another service, another box
-  pub matches-home : (s : System) (m : State) (h : Home) → Matches c n s m → HomeOk c n m h → Matches c n (with-home h s) m
+  pub matches-home : (s : System) (m : State) (h : Home) → Matches c n s m → HomeOk c n m h → Matches c n (with_home h s) m
   matches-home s m h o k = record { net = record { air = o.net.air; next = o.net.next; stolen = o.net.stolen }; home = k; side = o.side; box = o.box }
 
   pub matches-side : (s : System) (m : State) (v : ℕ) (w : View) → Matches c n s m → ((v ≡ 0 → ⊥) → SideOk c n m v w) → Matches c n (with-side v w s) m
@@ -46,7 +46,7 @@ module _ (c : Setting) (n : Naming c.own) where
         box = o.box;
       }
 
-  pub matches-box : (s : System) (m : State) (a : ℕ) (b : Box) → Matches c n s m → BoxOk c n m a b → Matches c n (with-box a b s) m
+  pub matches-box : (s : System) (m : State) (a : ℕ) (b : Box) → Matches c n s m → BoxOk c n m a b → Matches c n (with_box a b s) m
   matches-box s m a b o k =
       record {
         net = record { air = o.net.air; next = o.net.next; stolen = o.net.stolen };
@@ -56,14 +56,14 @@ module _ (c : Setting) (n : Naming c.own) where
       }
 
   -- a house, a service or a box that differs in what the model does not see
-  home-alike : (m : State) (h : Home) (bs : Bytes) (w : Bool) → HomeOk c n m h → HomeOk c n m (home-left bs (home-memory h.side h.kept h.junk w h))
+  home-alike : (m : State) (h : Home) (bs : Bytes) (w : Bool) → HomeOk c n m h → HomeOk c n m (home_left bs (home_memory h.side h.kept h.junk w h))
   home-alike m h bs w o =
       record {
-        now-is = o.now-is;
-        lag-is = o.lag-is;
+        now_is = o.now_is;
+        lag_is = o.lag_is;
         number_is = o.number_is;
-        life-is = o.life-is;
-        key-is = o.key-is;
+        life_is = o.life_is;
+        key_is = o.key_is;
         accounts = o.accounts;
         is_open = o.is_open;
         is-closed = o.is-closed;
@@ -71,17 +71,17 @@ module _ (c : Setting) (n : Naming c.own) where
       }
 
   side-alike : (m : State) (v : ℕ) (x : View) (bs : Bytes) (w : Bool) → SideOk c n m v x → SideOk c n m v (view x.side x.kept x.junk w bs)
-  side-alike m v x bs w o = record { now-is = o.now-is; lag-is = o.lag-is; number_is = o.number_is; notes = o.notes }
+  side-alike m v x bs w o = record { now_is = o.now_is; lag_is = o.lag_is; number_is = o.number_is; notes = o.notes }
 
-  box-alike : (m : State) (a : ℕ) (b : Box) (bs : Bytes) → BoxOk c n m a b → BoxOk c n m a (box-left bs b)
-  box-alike m a b bs o = record { now-is = o.now-is; key-is = o.key-is; logins = o.logins; askings = o.askings; tickets = o.tickets }
+  box-alike : (m : State) (a : ℕ) (b : Box) (bs : Bytes) → BoxOk c n m a b → BoxOk c n m a (box_left bs b)
+  box-alike m a b bs o = record { now_is = o.now_is; key_is = o.key_is; logins = o.logins; askings = o.askings; tickets = o.tickets }
 
   -- a box that crashed is empty
   box-empty : (m : State) (a : ℕ) (b : Box) → BoxOk c n m a b → BoxOk c n m a (empty_box b.number b.key b.now b.left)
   box-empty m a b o =
       record {
-        now-is = o.now-is;
-        key-is = o.key-is;
+        now_is = o.now_is;
+        key_is = o.key_is;
         logins = λ p h. absurd (Memᴰ.not-nil h);
         askings = λ p h. absurd (Memᴰ.not-nil h);
         tickets = λ t h. absurd (Memᴰ.not-nil h);
@@ -91,7 +91,7 @@ module _ (c : Setting) (n : Naming c.own) where
     abbrev m : State
     m = o.model
 
-    pub hands-house : (b : Bytes) → Tied c n K (suc p) (with-home (home-left (s.home.left ++ b) s.home) s) ls gs bs ds xs
+    pub hands-house : (b : Bytes) → Tied c n K (suc p) (with_home (home_left (s.home.left ++ b) s.home) s) ls gs bs ds xs
     hands-house b =
         unseen c n o _ (matches-home s o.model _ o.matches (home-alike o.model s.home (s.home.left ++ b) s.home.writes o.matches.home))
 
@@ -99,16 +99,16 @@ module _ (c : Setting) (n : Naming c.own) where
     hands-service v b =
         unseen c n o _ (matches-side s o.model v _ o.matches (λ z. side-alike o.model v (s.side v) ((s.side v).left ++ b) (s.side v).writes (o.matches.side v z)))
 
-    pub hands-reader : (a : ℕ) (b : Bytes) → Tied c n K (suc p) (with-box a (box-left ((s.box a).left ++ b) (s.box a)) s) ls gs bs ds xs
+    pub hands-reader : (a : ℕ) (b : Bytes) → Tied c n K (suc p) (with_box a (box_left ((s.box a).left ++ b) (s.box a)) s) ls gs bs ds xs
     hands-reader a b = unseen c n o _ (matches-box s o.model a _ o.matches (box-alike o.model a (s.box a) ((s.box a).left ++ b) (o.matches.box a)))
 
-    pub device-house : (w : Bool) → Tied c n K (suc p) (with-home (home-memory s.home.side s.home.kept s.home.junk w s.home) s) ls gs bs ds xs
+    pub device-house : (w : Bool) → Tied c n K (suc p) (with_home (home_memory s.home.side s.home.kept s.home.junk w s.home) s) ls gs bs ds xs
     device-house w = unseen c n o _ (matches-home s o.model _ o.matches (home-alike o.model s.home s.home.left w o.matches.home))
 
     pub device-service : (v : ℕ) (w : Bool) → Tied c n K (suc p) (with-side v (view (s.side v).side (s.side v).kept (s.side v).junk w (s.side v).left) s) ls gs bs ds xs
     device-service v w = unseen c n o _ (matches-side s o.model v _ o.matches (λ z. side-alike o.model v (s.side v) (s.side v).left w (o.matches.side v z)))
 
-    pub crash-reader : (a : ℕ) → Tied c n K (suc p) (with-box a (empty_box (s.box a).number (s.box a).key (s.box a).now (s.box a).left) s) ls gs bs ds xs
+    pub crash-reader : (a : ℕ) → Tied c n K (suc p) (with_box a (empty_box (s.box a).number (s.box a).key (s.box a).now (s.box a).left) s) ls gs bs ds xs
     crash-reader a = unseen c n o _ (matches-box s o.model a _ o.matches (box-empty o.model a (s.box a) (o.matches.box a)))
 
     past : (d : Done) → Memᴰ d o.model.done → d.at ≤ o.model.now
@@ -119,8 +119,8 @@ module _ (c : Setting) (n : Naming c.own) where
         → Notes c n o.model v (cond j (x.now + x.lag + 1) 0) j es → Notes c n o.model v x.wake j es
         → (w : Bool) (left : Bytes)
         → SideOk c n o.model v (view (restarted x (cond b (Err OutOfRange) (Ok (record { number = x.number; lag = x.lag; now = x.now; wake = cond j (x.now + x.lag + 1) 0 })))) es j w left)
-    restart v x es j true a e f new old w left = record { now-is = a; lag-is = e; number_is = f; notes = old }
-    restart v x es j false a e f new old w left = record { now-is = a; lag-is = e; number_is = f; notes = new }
+    restart v x es j true a e f new old w left = record { now_is = a; lag_is = e; number_is = f; notes = old }
+    restart v x es j false a e f new old w left = record { now_is = a; lag_is = e; number_is = f; notes = new }
 
     pub crash-service : (v : ℕ) (cut : Cut) → Writing cut (s.side v).side.now (s.side v).side.wake → Tied c n K (suc p) (with-side v (crashed_view cut (s.side v)) s) ls gs bs ds xs
     crash-service v cut w = unseen c n o _ (matches-side s o.model v _ o.matches (λ z. ok (o.matches.side v z)))
@@ -128,12 +128,12 @@ module _ (c : Setting) (n : Naming c.own) where
         ok : SideOk c n o.model v (s.side v) → SideOk c n o.model v (crashed_view cut (s.side v))
         ok k =
             let both =
-            notes-again c n o.model v (s.side v).side.wake (s.side v).side.now (s.side v).side.lag (s.side v).junk (s.side v).kept cut k.now-is k.lag-is past w k.notes
+            notes-again c n o.model v (s.side v).side.wake (s.side v).side.now (s.side v).side.lag (s.side v).junk (s.side v).kept cut k.now_is k.lag_is past w k.notes
             in
             restart v (s.side v).side (crashed_view cut (s.side v)).kept (crashed_view cut (s.side v)).junk
-            (unfit (s.side v).side.lag (s.side v).side.now (crashed_view cut (s.side v)).kept) k.now-is k.lag-is k.number_is both.0 both.1 (s.side v).writes (s.side v).left
+            (unfit (s.side v).side.lag (s.side v).side.now (crashed_view cut (s.side v)).kept) k.now_is k.lag_is k.number_is both.0 both.1 (s.side v).writes (s.side v).left
 
-    pub crash-house : (cut : Cut) → Writing cut s.home.side.now s.home.side.wake → Tied c n K (suc p) (with-home (crashed_home cut s.home) s) ls gs bs ds xs
+    pub crash-house : (cut : Cut) → Writing cut s.home.side.now s.home.side.wake → Tied c n K (suc p) (with_home (crashed_home cut s.home) s) ls gs bs ds xs
     crash-house cut w = unseen c n o _ (matches-home s o.model _ o.matches ok)
       where
         k : HomeOk c n o.model s.home
@@ -142,19 +142,19 @@ module _ (c : Setting) (n : Naming c.own) where
         side : SideOk c n o.model 0 (crashed_view cut (view_of s.home))
         side =
             let both =
-            notes-again c n o.model 0 s.home.side.wake s.home.side.now s.home.side.lag s.home.junk s.home.kept cut o.matches.home.now-is o.matches.home.lag-is past w o.matches.home.notes
+            notes-again c n o.model 0 s.home.side.wake s.home.side.now s.home.side.lag s.home.junk s.home.kept cut o.matches.home.now_is o.matches.home.lag_is past w o.matches.home.notes
             in
             restart 0 s.home.side (crashed_view cut (view_of s.home)).kept (crashed_view cut (view_of s.home)).junk
-            (unfit s.home.side.lag s.home.side.now (crashed_view cut (view_of s.home)).kept) o.matches.home.now-is o.matches.home.lag-is o.matches.home.number_is both.0 both.1 s.home.writes s.home.left
+            (unfit s.home.side.lag s.home.side.now (crashed_view cut (view_of s.home)).kept) o.matches.home.now_is o.matches.home.lag_is o.matches.home.number_is both.0 both.1 s.home.writes s.home.left
 
         ok : HomeOk c n o.model (crashed_home cut s.home)
         ok =
             record {
-              now-is = side.now-is;
-              lag-is = side.lag-is;
+              now_is = side.now_is;
+              lag_is = side.lag_is;
               number_is = side.number_is;
-              life-is = o.matches.home.life-is;
-              key-is = o.matches.home.key-is;
+              life_is = o.matches.home.life_is;
+              key_is = o.matches.home.key_is;
               accounts = o.matches.home.accounts;
               is_open = o.matches.home.is_open;
               is-closed = o.matches.home.is-closed;
@@ -187,8 +187,8 @@ module _ (c : Setting) (n : Naming c.own) where
           deeds = deeds-stay c n ls ls o.model t g.grows (λ w l h. h) o.deeds;
           takens = o.takens;
           since = o.since;
-          low-lines = down-more (λ (w : Wanted). w.place) p (suc p) ls (omega arith) o.low-lines;
-          low-keys = down-more (λ (g : Given). g.place) p (suc p) gs (omega arith) o.low-keys;
+          low_lines = down-more (λ (w : Wanted). w.place) p (suc p) ls (omega arith) o.low_lines;
+          low_keys = down-more (λ (g : Given). g.place) p (suc p) gs (omega arith) o.low_keys;
         }
       where
         t : State
@@ -198,5 +198,5 @@ module _ (c : Setting) (n : Naming c.own) where
         g = change (reached o.reach) (Event.steals (n.key_of k)) tt
 
         heard : (x : Term) → (x ≡ n.name (own_of c.own k).0) ⊎ Memᴰ x s.air → Memᴰ x (Own (n.key_of k) ∷ o.model.air)
-        heard x (inl e) = Memᴰ.head (e ∙ n.of-own k there)
+        heard x (inl e) = Memᴰ.head (e ∙ n.of_own k there)
         heard x (inr h) = Memᴰ.tail (o.matches.net.air x h)

@@ -160,8 +160,8 @@ pub record HouseFine (h : Home) (a v until t d : ℕ) : Type 0 where
   pub known : unknown h.accounts a ≡ false
   pub there : unknown h.accounts v ≡ false
   pub is_open : closed h.accounts a ≡ false
-  pub in-time : t ≡ h.side.now
-  pub is-good : h.side.now ≤ until
+  pub in_time : t ≡ h.side.now
+  pub is_good : h.side.now ≤ until
   pub is-new : stands d (live_of h.side.now h.side.lag h.kept) ≡ false
   pub room : length (live_of h.side.now h.side.lag h.kept) < 8192
   pub drawn : 64 ≤ length h.left
@@ -172,11 +172,11 @@ house-clear : (h : Home) (a v : ℕ) (k : Key) (m : Number) (until t d : ℕ) �
 house-clear h a v k m until t d f =
     none-cons _ _ _ (or_from (unknown h.accounts a) (missing h.accounts (house_q v m t)) f.known there)
     (none-cons _ _ _ f.is_open
-    (none-cons _ _ _ (not_from_true (lately h.side.now h.side.lag t) (lately-now h.side.now h.side.lag t f.in-time))
-    (none-cons _ _ _ (le-ltb until h.side.now f.is-good)
+    (none-cons _ _ _ (not_from_true (lately h.side.now h.side.lag t) (lately-now h.side.now h.side.lag t f.in_time))
+    (none-cons _ _ _ (le-ltb until h.side.now f.is_good)
     (none-cons _ _ _ f.is-new
     (none-cons _ _ _ (lt-leb 8192 (length (live_of h.side.now h.side.lag h.kept)) f.room)
-    (none-cons _ _ _ a-service
+    (none-cons _ _ _ a_service
     (none-cons _ _ _ (le-ltb (length h.left) 64 f.drawn)
     (none-cons _ _ _ f.awake
     (none-cons _ _ _ (not_from_true h.writes f.writes) first_fault-nil)))))))))
@@ -186,8 +186,8 @@ house-clear h a v k m until t d f =
         and_right (not (eqb (wanted (house_q v m t)) 0)) (unknown h.accounts (wanted (house_q v m t)))
         (ap (λ (x : ℕ). unknown h.accounts x) (two_bytes_lem v) ∙ f.there)
 
-    a-service : eqb (wanted (house_q v m t)) 0 ≡ false
-    a-service = ap (λ (x : ℕ). eqb x 0) (two_bytes_lem v) ∙ or-false-left (eqb v 0) (ltb 1023 v) (or-false-left (nobody v) (is_absent (account_of h.accounts v)) f.there)
+    a_service : eqb (wanted (house_q v m t)) 0 ≡ false
+    a_service = ap (λ (x : ℕ). eqb x 0) (two_bytes_lem v) ∙ or-false-left (eqb v 0) (ltb 1023 v) (or-false-left (nobody v) (is_absent (account_of h.accounts v)) f.there)
 
 -- what it then gives
 abbrev pub given_for : Home → (a v : ℕ) → Key → Number → ℕ → Given
@@ -215,8 +215,8 @@ service_q v m w t = record { service = v; number = m; what = w; tick = t }
 pub record ServiceFine (u : View) (a v until t d : ℕ) : Type 0 where
   pub somebody : nobody a ≡ false
   pub number_is : u.side.number ≡ v
-  pub in-time : t ≡ u.side.now
-  pub is-good : u.side.now ≤ until
+  pub in_time : t ≡ u.side.now
+  pub is_good : u.side.now ≤ until
   pub is-new : stands d (live_of u.side.now u.side.lag u.kept) ≡ false
   pub room : length (live_of u.side.now u.side.lag u.kept) < 8192
   pub drawn : 16 ≤ length u.left
@@ -227,8 +227,8 @@ service-clear : (u : View) (a v : ℕ) (k : Key) (m : Number) (w : What) (until 
 service-clear u a v k m w until t d f =
     let here : eqb v u.side.number ≡ true = eq-eqb v u.side.number (sym f.number_is) in
     none-cons _ _ _ f.somebody
-    (none-cons _ _ _ (not_from_true (lately u.side.now u.side.lag t) (lately-now u.side.now u.side.lag t f.in-time))
-    (none-cons _ _ _ (le-ltb until u.side.now f.is-good)
+    (none-cons _ _ _ (not_from_true (lately u.side.now u.side.lag t) (lately-now u.side.now u.side.lag t f.in_time))
+    (none-cons _ _ _ (le-ltb until u.side.now f.is_good)
     (none-cons _ _ _ f.is-new
     (none-cons _ _ _ (lt-leb 8192 (length (live_of u.side.now u.side.lag u.kept)) f.room)
     (none-cons _ _ _ (not_from_true (eqb v u.side.number && eqb v u.side.number) (and_from (eqb v u.side.number) (eqb v u.side.number) here here))

@@ -35,7 +35,7 @@ use Rattle.tickets.proofs.Bools.{or-false-left}
 use Rattle.rows.specs.Name.{Bytes, Naming, own_of}
 use Rattle.rows.specs.Word.{words_of, told_sent, told_drawn, reply_sent, reply_drawn, ticket_term, letter_term, asking_term, login_term, receipt_term, answer_sent}
 use Rattle.rows.specs.Setting.{Setting}
-use Rattle.rows.specs.System.{System, Box, at, step, run, Can, Possible, New, wants, logs_in, takes, asks_house, asks, with-home, with-box, with-sent}
+use Rattle.rows.specs.System.{System, Box, at, step, run, Can, Possible, New, wants, logs_in, takes, asks_house, asks, with_home, with_box, with_sent}
 use Rattle.rows.specs.Row.{Deed, deed_told, deeds, Wanted, line_told, lines}
 use Rattle.rows.specs.Served.{Ready, Served, first_login, house_ticket, house_letter, house_asking, service_ticket, service_letter, service_asking, new_deed, wanted_line, six_calls, six_sent}
 use Rattle.rows.proofs.Names.{same_refl}
@@ -56,7 +56,7 @@ record Looks (a : ℕ) (s : System) (h : Home) (b : Box) (air : List Term) (used
 module _ (name : Bytes → Term) (a : ℕ) where
   -- a box, or the house, answers
   box-looks : {s : System} {h : Home} {b : Box} {air : List Term} {used : List Bytes} → Looks a s h b air used → {r r' : Told.Answer} → r ≡ r' → {x x' : Box} → x ≡ x'
-      → Looks a (with-sent (told_sent name r) (told_drawn r) (with-box a x s)) h x' (told_sent name r' ++ air) (told_drawn r' ++ used)
+      → Looks a (with_sent (told_sent name r) (told_drawn r) (with_box a x s)) h x' (told_sent name r' ++ air) (told_drawn r' ++ used)
   box-looks {s} l {r} {r'} p {x} q =
       record {
         home = l.home;
@@ -66,7 +66,7 @@ module _ (name : Bytes → Term) (a : ℕ) where
       }
 
   home-looks : {s : System} {h : Home} {b : Box} {air : List Term} {used : List Bytes} → Looks a s h b air used → {r r' : Reply} → r ≡ r' → {x x' : Home} → x ≡ x'
-      → Looks a (with-sent (reply_sent name r) (reply_drawn r) (with-home x s)) x' b (reply_sent name r' ++ air) (reply_drawn r' ++ used)
+      → Looks a (with_sent (reply_sent name r) (reply_drawn r) (with_home x s)) x' b (reply_sent name r' ++ air) (reply_drawn r' ++ used)
   home-looks {s} l {r} {r'} p q =
       record {
         home = q;
@@ -189,7 +189,7 @@ module _ (c : Setting) (n : Naming c.own) (s : System) (a v : ℕ) (w : What) wh
 
   module _ (o : Steady c n s) (r : Ready c n s a v w) where
     service-there : nobody v ≡ false
-    service-there = or-false-left (nobody v) (is_absent (account_of h.accounts v)) r.service-known
+    service-there = or-false-left (nobody v) (is_absent (account_of h.accounts v)) r.service_known
 
     not-house : eqb v 0 ≡ false
     not-house = or-false-left (eqb v 0) (ltb 1023 v) service-there
@@ -199,37 +199,37 @@ module _ (c : Setting) (n : Naming c.own) (s : System) (a v : ℕ) (w : What) wh
 
     -- the account has the key that the box has
     own-a : own_key h.accounts a ≡ b.key
-    own-a = (o.accounts a r.known).own ∙ sym (o.boxes a).key-is
+    own-a = (o.accounts a r.known).own ∙ sym (o.boxes a).key_is
 
     drawn₂ : 32 ≤ length (drop 32 b.left)
-    drawn₂ = let e = length-drop 32 b.left in let d = r.box-at-work.drawn in omega arith
+    drawn₂ = let e = length-drop 32 b.left in let d = r.box_at_work.drawn in omega arith
 
     drawn₃ : 32 ≤ length (drop 32 (drop 32 b.left))
-    drawn₃ = let e = length-drop 32 b.left in let f = length-drop 32 (drop 32 b.left) in let d = r.box-at-work.drawn in omega arith
+    drawn₃ = let e = length-drop 32 b.left in let f = length-drop 32 (drop 32 b.left) in let d = r.box_at_work.drawn in omega arith
 
     home-drawn : 64 ≤ length (drop 64 h.left)
-    home-drawn = let e = length-drop 64 h.left in let d = r.house-at-work.drawn in omega arith
+    home-drawn = let e = length-drop 64 h.left in let d = r.house_at_work.drawn in omega arith
 
     -- 1: the line
     wanted₁ : line.wanted b v None w ≡ told.LogsIn (line.login_of b)
-    wanted₁ = line-answer b v w service-there r.words r.box-at-work.lines (let d = r.box-at-work.drawn in omega arith)
+    wanted₁ = line-answer b v w service-there r.words r.box_at_work.lines (let d = r.box_at_work.drawn in omega arith)
 
     looks₁ : Looks a s₁ h b₁ air₁ used₁
     looks₁ =
         box-looks n.name a {s = s} {b = b} (record { home = refl; box = refl; air-is = refl; used-is = refl }) wanted₁
-        (line_after b v w service-there r.words r.box-at-work.lines (let d = r.box-at-work.drawn in omega arith))
+        (line_after b v w service-there r.words r.box_at_work.lines (let d = r.box_at_work.drawn in omega arith))
 
     can₁ : Can c n s (wants a v None w)
     can₁ = record { reader = r.reader; new = subst (λ (x : Told.Answer). New c n s (told_drawn x)) (sym wanted₁) r.draws.0 }
 
     -- 2: the login
     logged₂ : house.logged_in s₁.home a login₁ ≡ giving (until_of h) h.left (house.login_given h a login₁)
-    logged₂ = login-answer h a login₁ r.known r.is_open (o.boxes a).now-is (let d = r.house-at-work.drawn in omega arith) r.house-at-work.awake
+    logged₂ = login-answer h a login₁ r.known r.is_open (o.boxes a).now_is (let d = r.house_at_work.drawn in omega arith) r.house_at_work.awake
 
     looks₂ : Looks a s₂ h₁ b₁ air₂ used₂
     looks₂ =
         home-looks n.name a {s = s₁} looks₁ logged₂
-        (login-after h a login₁ r.known r.is_open (o.boxes a).now-is (let d = r.house-at-work.drawn in omega arith) r.house-at-work.awake)
+        (login-after h a login₁ r.known r.is_open (o.boxes a).now_is (let d = r.house_at_work.drawn in omega arith) r.house_at_work.awake)
 
     can₂ : Can c n s₁ (logs_in a login₁)
     can₂ =
@@ -255,19 +255,19 @@ module _ (c : Setting) (n : Naming c.own) (s : System) (a v : ℕ) (w : What) wh
         ≡ told.Takes (record { id = b.taken + 1; service = 0; until = until_of h }) (asking_of b₁ k₁ 0 the_line)
     taken₃ =
         ap (λ (x : Box). letter.taken x OwnKey letter₁) looks₂.box
-        ∙ letter-answer b₁ OwnKey letter₁ _ pending₃ drawn₂ (let d = r.box-at-work.tickets in omega arith)
+        ∙ letter-answer b₁ OwnKey letter₁ _ pending₃ drawn₂ (let d = r.box_at_work.tickets in omega arith)
 
     looks₃ : Looks a s₃ h₁ b₂ air₃ used₃
     looks₃ =
         box-looks n.name a {s = s₂} looks₂ taken₃
         (ap (λ (x : Box). letter.taken_after x OwnKey letter₁ tt) looks₂.box
-        ∙ letter-after b₁ OwnKey letter₁ _ pending₃ drawn₂ (let d = r.box-at-work.tickets in omega arith))
+        ∙ letter-after b₁ OwnKey letter₁ _ pending₃ drawn₂ (let d = r.box_at_work.tickets in omega arith))
 
     can₃ : Can c n s₂ (takes a OwnKey letter₁)
     can₃ =
         record {
           reader = r.reader;
-          letter-heard =
+          letter_heard =
               subst (λ (x : List Term). Gets x (letter_term n.name (s₂.box a).key letter₁)) (sym looks₂.air-is)
               (has (Memᴰ.tail (Memᴰ.head (ap (λ (k : Key). letter_term n.name k letter₁) (ap (λ (x : Box). x.key) looks₂.box ∙ sym own-a)))));
           new =
@@ -280,15 +280,15 @@ module _ (c : Setting) (n : Naming c.own) (s : System) (a v : ℕ) (w : What) wh
     fine₄ =
         record {
           known = r.known;
-          there = r.service-known;
+          there = r.service_known;
           is_open = r.is_open;
-          in-time = (o.boxes a).now-is;
-          is-good = omega arith;
-          is-new = r.house-digest;
-          room = r.house-at-work.room;
+          in_time = (o.boxes a).now_is;
+          is_good = omega arith;
+          is-new = r.house_digest;
+          room = r.house_at_work.room;
           drawn = home-drawn;
-          awake = r.house-at-work.awake;
-          writes = r.house-at-work.writes;
+          awake = r.house_at_work.awake;
+          writes = r.house_at_work.writes;
         }
 
     answered₄ : house.answered s₃.home ticket₁ asking₁ digest₁
@@ -333,7 +333,7 @@ module _ (c : Setting) (n : Naming c.own) (s : System) (a v : ℕ) (w : What) wh
         ≡ told.Takes (record { id = b.taken + 1 + 1; service = v; until = until_of h }) (asking_of b₂ k₂ v the_line)
     taken₅ =
         ap (λ (x : Box). letter.taken x (Session k₁) letter₂) looks₄.box
-        ∙ letter-answer b₂ (Session k₁) letter₂ _ pending₅ drawn₃ r.box-at-work.tickets
+        ∙ letter-answer b₂ (Session k₁) letter₂ _ pending₅ drawn₃ r.box_at_work.tickets
 
     -- what is asked is the line's words, at the line's tick
     asking₅ : (asking_of b₂ k₂ v the_line).inside ≡ asking₂
@@ -350,7 +350,7 @@ module _ (c : Setting) (n : Naming c.own) (s : System) (a v : ℕ) (w : What) wh
     can₅ =
         record {
           reader = r.reader;
-          letter-heard =
+          letter_heard =
               subst (λ (x : List Term). Gets x (letter_term n.name k₁ letter₂)) (sym looks₄.air-is)
               (has (Memᴰ.tail (Memᴰ.head refl)));
           new =
@@ -367,13 +367,13 @@ module _ (c : Setting) (n : Naming c.own) (s : System) (a v : ℕ) (w : What) wh
         record {
           somebody = reader-there;
           number_is = (o.sides v).number_is;
-          in-time = (o.boxes a).now-is ∙ sym (o.sides v).now-is;
-          is-good = let e = (o.sides v).now-is in omega arith;
+          in_time = (o.boxes a).now_is ∙ sym (o.sides v).now_is;
+          is_good = let e = (o.sides v).now_is in omega arith;
           is-new = r.digest;
-          room = r.at-work.room;
-          drawn = r.at-work.drawn;
-          awake = r.at-work.awake;
-          writes = r.at-work.writes;
+          room = r.at_work.room;
+          drawn = r.at_work.drawn;
+          awake = r.at_work.awake;
+          writes = r.at_work.writes;
         }
 
     answered₆ : service.answered (s₅.side v) ticket₂ asking₂ digest₂
@@ -383,11 +383,11 @@ module _ (c : Setting) (n : Naming c.own) (s : System) (a v : ℕ) (w : What) wh
     can₆ : Can c n s₅ (asks v ticket₂ asking₂)
     can₆ =
         record {
-          a-service = eqb-false v 0 not-house;
-          there = (o.accounts v r.service-known).there;
+          a_service = eqb-false v 0 not-house;
+          there = (o.accounts v r.service_known).there;
           ticket =
               subst (λ (x : List Term). Gets x (ticket_term n.name (own_of c.own v) ticket₂)) (sym air-is₅)
-              (has (Memᴰ.tail (Memᴰ.head (ap (λ (k : Key). ticket_term n.name k ticket₂) (sym (o.accounts v r.service-known).own)))));
+              (has (Memᴰ.tail (Memᴰ.head (ap (λ (k : Key). ticket_term n.name k ticket₂) (sym (o.accounts v r.service_known).own)))));
           asking =
               subst (λ (x : List Term). Gets x (asking_term n.name k₂ asking₂)) (sym air-is₅)
               (has (Memᴰ.head refl));
@@ -411,8 +411,8 @@ module _ (c : Setting) (n : Naming c.own) (s : System) (a v : ℕ) (w : What) wh
         ap (λ (x : Answer). answer_sent n.name x ++ s₅.air) answered₆
         ∙ (ap (λ (x : List Term). receipt_term n.name k₂ (record { number = m₃ }) ∷ x) air-is₅
         ∙ (ap (λ (x : Key). sent_by x (own_key h.accounts v) b.key) (o.accounts a r.known).own
-        ∙ (ap (λ (y : Key). sent_by (own_of c.own a) y b.key) (o.accounts v r.service-known).own
-        ∙ ap (λ (z : Key). sent_by (own_of c.own a) (own_of c.own v) z) (o.boxes a).key-is)))
+        ∙ (ap (λ (y : Key). sent_by (own_of c.own a) y b.key) (o.accounts v r.service_known).own
+        ∙ ap (λ (z : Key). sent_by (own_of c.own a) (own_of c.own v) z) (o.boxes a).key_is)))
 
     -- nothing else is changed
     house-same : s₆.home.side ≡ h.side
@@ -433,7 +433,7 @@ module _ (c : Setting) (n : Naming c.own) (s : System) (a v : ℕ) (w : What) wh
     line-told : (p : ℕ) → line_told (line.wanted b v None w) (record { place = p; reader = a; service = v; what = words_of w; at = b.now }) ≡ wanted_line s p a v w ∷ []
     line-told p =
         ap (λ (x : Told.Answer). line_told x (record { place = p; reader = a; service = v; what = words_of w; at = b.now })) wanted₁
-        ∙ ap (λ (t : ℕ). line_at p t) (o.boxes a).now-is
+        ∙ ap (λ (t : ℕ). line_at p t) (o.boxes a).now_is
 
     abbrev deed_at : (p t : ℕ) → List Deed
     deed_at p t =
@@ -453,7 +453,7 @@ module _ (c : Setting) (n : Naming c.own) (s : System) (a v : ℕ) (w : What) wh
         → deed_told (service.answered (s₅.side v) ticket₂ asking₂ digest₂) p v (s₅.side v).side.now s₅.stolen ≡ new_deed s q a v w ∷ []
     deed-told p q e =
         ap (λ (x : Answer). deed_told x p v (s.side v).side.now s.stolen) answered₆
-        ∙ (ap (λ (t : ℕ). deed_at p t) (o.sides v).now-is
+        ∙ (ap (λ (t : ℕ). deed_at p t) (o.sides v).now_is
         ∙ ap (λ (i : ℕ). deed_at i h.side.now) e)
 
 module _ (c : Setting) (n : Naming c.own) where
@@ -474,6 +474,6 @@ module _ (c : Setting) (n : Naming c.own) where
               house = house-same c n s a v w o r;
               sides = sides-same c n s a v w o r;
               boxes =
-                  λ j. ((row-steady c n t (six_calls s a v w ++ es) all).boxes j).now-is ∙ (ap (λ (x : Side). x.now) (house-same c n s a v w o r) ∙ sym (o.boxes j).now-is);
+                  λ j. ((row-steady c n t (six_calls s a v w ++ es) all).boxes j).now_is ∙ (ap (λ (x : Side). x.now) (house-same c n s a v w o r) ∙ sym (o.boxes j).now_is);
             };
       }

@@ -40,7 +40,7 @@ use Rattle.rows.specs.Name.{Bytes, Naming, own_of}
 use Rattle.rows.specs.Word.{told_sent, told_drawn, reply_sent, reply_drawn, answer_sent}
 use Rattle.rows.specs.Setting.{Setting}
 use Rattle.rows.proofs.Matches.{told_box}
-use Rattle.rows.specs.System.{System, Box, Act, at, step, run, first, Can, Possible, New, with-home, with-side, with-box, with-sent, home-left, home-accounts, home-memory, box-left, empty_box, view_of, crashed_view, crashed_home, restarted}
+use Rattle.rows.specs.System.{System, Box, Act, at, step, run, first, Can, Possible, New, with_home, with-side, with_box, with_sent, home_left, home_accounts, home_memory, box_left, empty_box, view_of, crashed_view, crashed_home, restarted}
 use Rattle.rows.specs.System
 
 -- one of many: the changed one, or as before
@@ -144,12 +144,12 @@ module _ (c : Setting) (n : Naming c.own) where
     pub own : own_key xs k ≡ own_of c.own k
 
   pub record SideSteady (now v : ℕ) (u : View) : Type 0 where
-    pub now-is : u.side.now ≡ now
+    pub now_is : u.side.now ≡ now
     pub number_is : u.side.number ≡ v
 
   pub record BoxSteady (now used a : ℕ) (b : Box) : Type 0 where
-    pub now-is : b.now ≡ now
-    pub key-is : b.key ≡ own_of c.own a
+    pub now_is : b.now ≡ now
+    pub key_is : b.key ≡ own_of c.own a
     pub logins : Below used b.logins
     pub askings : Below used b.askings
 
@@ -188,7 +188,7 @@ module _ (c : Setting) (n : Naming c.own) where
 
   -- more draws were used
   box-used : (now j k a : ℕ) (b : Box) → j ≤ k → BoxSteady now j a b → BoxSteady now k a b
-  box-used now j k a b h o = record { now-is = o.now-is; key-is = o.key-is; logins = below_more j k b.logins h o.logins; askings = below_more j k b.askings h o.askings }
+  box-used now j k a b h o = record { now_is = o.now_is; key_is = o.key_is; logins = below_more j k b.logins h o.logins; askings = below_more j k b.askings h o.askings }
 
   -- a draw with the next name
   newest : (s : System) (x : Bytes) → n.name x ≡ even (suc (length s.used)) → (i : ℕ) × (n.name x ≡ even i) × (i ≤ suc (length s.used))
@@ -210,15 +210,15 @@ module _ (c : Setting) (n : Naming c.own) where
       go : (p : Option Pass) → Keeps s a (line.sent_by b p (line.line_of b v w)) (line.sent_after b p (line.line_of b v w))
       go None e =
           record {
-            now-is = o.now-is;
-            key-is = o.key-is;
+            now_is = o.now_is;
+            key_is = o.key_is;
             logins = below-take (suc (length s.used)) 16 _ (below-cons (suc (length s.used)) (record { number = number_of b.left; key = b.key; asks = 0; line = line.line_of b v w }) b.logins (newest s (number_of b.left).0 e) up.logins);
             askings = up.askings;
           }
       go (Some p) e =
           record {
-            now-is = o.now-is;
-            key-is = o.key-is;
+            now_is = o.now_is;
+            key_is = o.key_is;
             logins = up.logins;
             askings = below-take (suc (length s.used)) 16 _ (below-cons (suc (length s.used)) (record { number = number_of b.left; key = p.key; asks = p.service; line = line.line_of b v w }) b.askings (newest s (number_of b.left).0 e) up.askings);
           }
@@ -239,15 +239,15 @@ module _ (c : Setting) (n : Naming c.own) where
       go (Session x) None e = o
       go OwnKey (Some p) e =
           record {
-            now-is = o.now-is;
-            key-is = o.key-is;
+            now_is = o.now_is;
+            key_is = o.key_is;
             logins = below-kept (suc (length s.used)) (λ q. not (bytes_eq q.number.0 l.number.0)) b.logins up.logins;
             askings = below-take (suc (length s.used)) 16 _ (below-cons (suc (length s.used)) (record { number = number_of b.left; key = l.key; asks = l.service; line = p.line }) b.askings (newest s (number_of b.left).0 e) up.askings);
           }
       go (Session x) (Some p) e =
           record {
-            now-is = o.now-is;
-            key-is = o.key-is;
+            now_is = o.now_is;
+            key_is = o.key_is;
             logins = up.logins;
             askings =
                 below-take (suc (length s.used)) 16 _ (below-cons (suc (length s.used)) (record { number = number_of b.left; key = l.key; asks = l.service; line = p.line }) (without l.number b.askings) (newest s (number_of b.left).0 e)
@@ -256,7 +256,7 @@ module _ (c : Setting) (n : Naming c.own) where
 
   -- a tick leaves a box steady
   told-keeps : (used a now to : ℕ) (b : Box) (r : Ticked) → BoxSteady now used a b → BoxSteady (now_at now to r) used a (told_box b to r)
-  told-keeps used a now to b On o = record { now-is = refl; key-is = o.key-is; logins = o.logins; askings = o.askings }
+  told-keeps used a now to b On o = record { now_is = refl; key_is = o.key_is; logins = o.logins; askings = o.askings }
   told-keeps used a now to b Back o = o
   told-keeps used a now to b Stopped o = o
 
@@ -292,7 +292,7 @@ module _ (c : Setting) (n : Naming c.own) where
           (r.there, closed-key (account_of xs m) ∙ r.own)
 
   -- another home at the same tick
-  home-keeps : (s : System) (h : Home) → h.side.now ≡ s.home.side.now → AllSteady h.accounts → Steady s → Steady (with-home h s)
+  home-keeps : (s : System) (h : Home) → h.side.now ≡ s.home.side.now → AllSteady h.accounts → Steady s → Steady (with_home h s)
   home-keeps s h e x o =
       record {
         accounts = x;
@@ -304,12 +304,12 @@ module _ (c : Setting) (n : Naming c.own) where
   side-keeps s v u e f o =
       record {
         accounts = o.accounts;
-        sides = λ j. at-either (λ (i : ℕ) (x : View). SideSteady s.home.side.now i x) v u s.side (record { now-is = e ∙ (o.sides v).now-is; number_is = f ∙ (o.sides v).number_is }) j (o.sides j);
+        sides = λ j. at-either (λ (i : ℕ) (x : View). SideSteady s.home.side.now i x) v u s.side (record { now_is = e ∙ (o.sides v).now_is; number_is = f ∙ (o.sides v).number_is }) j (o.sides j);
         boxes = o.boxes;
       }
 
   -- what is sent and drawn does not change it
-  sent-keeps : (s : System) (ts : List Term) (ds : List Bytes) → Steady s → Steady (with-sent ts ds s)
+  sent-keeps : (s : System) (ts : List Term) (ds : List Bytes) → Steady s → Steady (with_sent ts ds s)
   sent-keeps s ts ds o =
       record {
         accounts = o.accounts;
@@ -318,7 +318,7 @@ module _ (c : Setting) (n : Naming c.own) where
       }
 
   -- a box that keeps to it with its draws
-  box-keeps : (s : System) (a : ℕ) (ts : List Term) (ds : List Bytes) (b : Box) → BoxSteady s.home.side.now (length (ds ++ s.used)) a b → Steady s → Steady (with-sent ts ds (with-box a b s))
+  box-keeps : (s : System) (a : ℕ) (ts : List Term) (ds : List Bytes) (b : Box) → BoxSteady s.home.side.now (length (ds ++ s.used)) a b → Steady s → Steady (with_sent ts ds (with_box a b s))
   box-keeps s a ts ds b k o =
       record {
         accounts = o.accounts;
@@ -334,33 +334,33 @@ module _ (c : Setting) (n : Naming c.own) where
         accounts = o.accounts;
         sides =
             λ v. record {
-              now-is = tick-now (s.side v).side s.home.side to (o.sides v).now-is;
+              now_is = tick-now (s.side v).side s.home.side to (o.sides v).now_is;
               number_is = set-number (s.side v).side to (clock (s.side v).side.now to) ∙ (o.sides v).number_is;
             };
         boxes =
             λ a. subst (λ (t : ℕ). BoxSteady t (length s.used) a (told_box (s.box a) to (clock (s.box a).now to)))
-            (ap (λ (t : ℕ). now_at s.home.side.now to (clock t to)) (o.boxes a).now-is ∙ sym (set-now s.home.side to (clock s.home.side.now to)))
+            (ap (λ (t : ℕ). now_at s.home.side.now to (clock t to)) (o.boxes a).now_is ∙ sym (set-now s.home.side to (clock s.home.side.now to)))
             (told-keeps (length s.used) a s.home.side.now to (s.box a) (clock (s.box a).now to) (o.boxes a));
       }
-  step_keeps s (System.hands System.House bs) k o = home-keeps s (home-left (s.home.left ++ bs) s.home) refl o.accounts o
+  step_keeps s (System.hands System.House bs) k o = home-keeps s (home_left (s.home.left ++ bs) s.home) refl o.accounts o
   step_keeps s (System.hands (System.Service v) bs) k o = side-keeps s v (view (s.side v).side (s.side v).kept (s.side v).junk (s.side v).writes ((s.side v).left ++ bs)) refl refl o
   step_keeps s (System.hands (System.Reader a) bs) k o =
       let b = o.boxes a in
-      box-keeps s a [] [] (box-left ((s.box a).left ++ bs) (s.box a)) (record { now-is = b.now-is; key-is = b.key-is; logins = b.logins; askings = b.askings }) o
+      box-keeps s a [] [] (box_left ((s.box a).left ++ bs) (s.box a)) (record { now_is = b.now_is; key_is = b.key_is; logins = b.logins; askings = b.askings }) o
   step_keeps s (System.steals m) k o = record { accounts = o.accounts; sides = o.sides; boxes = o.boxes }
   step_keeps s (System.opens m x w) k o =
-      home-keeps s (home-accounts (opened_after s.home.accounts m x w) s.home) refl (changed-keeps s.home.accounts m (Open x) (opened s.home.accounts m w) o.accounts (λ _ _. (k.there, k.own))) o
-  step_keeps s (System.closes m w) k o = home-keeps s (home-accounts (shut_after s.home.accounts m w) s.home) refl (shut-keeps s.home.accounts m w o.accounts) o
+      home-keeps s (home_accounts (opened_after s.home.accounts m x w) s.home) refl (changed-keeps s.home.accounts m (Open x) (opened s.home.accounts m w) o.accounts (λ _ _. (k.there, k.own))) o
+  step_keeps s (System.closes m w) k o = home-keeps s (home_accounts (shut_after s.home.accounts m w) s.home) refl (shut-keeps s.home.accounts m w o.accounts) o
   step_keeps s (System.wants a v by w) k o =
       box-keeps s a (told_sent n.name (line.wanted (s.box a) v by w)) (told_drawn (line.wanted (s.box a) v by w)) (line.wanted_after (s.box a) v by w) (line-keeps s a v by w (s.box a) (o.boxes a) k.new) o
   step_keeps s (System.logs_in a l) k o =
-      sent-keeps (with-home (house.login_after s.home a l) s) (reply_sent n.name (house.logged_in s.home a l)) (reply_drawn (house.logged_in s.home a l))
-      (unless-either (λ (h : Home). Steady (with-home h s)) (first_fault (house.login_conditions s.home a l)) (house.drew s.home) (λ _. s.home)
+      sent-keeps (with_home (house.login_after s.home a l) s) (reply_sent n.name (house.logged_in s.home a l)) (reply_drawn (house.logged_in s.home a l))
+      (unless-either (λ (h : Home). Steady (with_home h s)) (first_fault (house.login_conditions s.home a l)) (house.drew s.home) (λ _. s.home)
       (home-keeps s (house.drew s.home) refl o.accounts o) (λ _. home-keeps s s.home refl o.accounts o))
   step_keeps s (System.asks_house t q) k o =
-      sent-keeps (with-home (house.after s.home t q (c.digest t.key q.number)) s) (reply_sent n.name (house.answered s.home t q (c.digest t.key q.number))) (reply_drawn (house.answered s.home t q (c.digest t.key q.number)))
-      (cond_either (λ (h : Home). Steady (with-home h s)) (readable q) _ s.home
-      (unless-either (λ (h : Home). Steady (with-home h s)) (first_fault (house.conditions s.home t q (c.digest t.key q.number))) (house.drew (house.noted s.home (c.digest t.key q.number))) (λ _. s.home)
+      sent-keeps (with_home (house.after s.home t q (c.digest t.key q.number)) s) (reply_sent n.name (house.answered s.home t q (c.digest t.key q.number))) (reply_drawn (house.answered s.home t q (c.digest t.key q.number)))
+      (cond_either (λ (h : Home). Steady (with_home h s)) (readable q) _ s.home
+      (unless-either (λ (h : Home). Steady (with_home h s)) (first_fault (house.conditions s.home t q (c.digest t.key q.number))) (house.drew (house.noted s.home (c.digest t.key q.number))) (λ _. s.home)
       (home-keeps s (house.drew (house.noted s.home (c.digest t.key q.number))) refl o.accounts o) (λ _. home-keeps s s.home refl o.accounts o)) (home-keeps s s.home refl o.accounts o))
   step_keeps s (System.asks v t q) k o =
       sent-keeps (with-side v (service.after (s.side v) t q (c.digest t.key q.number)) s) (answer_sent n.name (service.answered (s.side v) t q (c.digest t.key q.number))) []
@@ -369,21 +369,21 @@ module _ (c : Setting) (n : Naming c.own) where
   step_keeps s (System.takes a u l) k o =
       box-keeps s a (told_sent n.name (letter.taken (s.box a) u l)) (told_drawn (letter.taken (s.box a) u l)) (letter.taken_after (s.box a) u l tt) (letter-keeps s a u l (s.box a) (o.boxes a) k.new) o
   step_keeps s (System.hears who) k o = o
-  step_keeps s (System.device System.House w) k o = home-keeps s (home-memory s.home.side s.home.kept s.home.junk w s.home) refl o.accounts o
+  step_keeps s (System.device System.House w) k o = home-keeps s (home_memory s.home.side s.home.kept s.home.junk w s.home) refl o.accounts o
   step_keeps s (System.device (System.Service v) w) k o = side-keeps s v (view (s.side v).side (s.side v).kept (s.side v).junk w (s.side v).left) refl refl o
   step_keeps s (System.device (System.Reader a) w) k o = o
   step_keeps s (System.crashes System.House cut) k o = home-keeps s (crashed_home cut s.home) (crash-now cut (view_of s.home)) o.accounts o
   step_keeps s (System.crashes (System.Service v) cut) k o = side-keeps s v (crashed_view cut (s.side v)) (crash-now cut (s.side v)) (crash-number cut (s.side v)) o
   step_keeps s (System.crashes (System.Reader a) cut) k o =
       let b = o.boxes a in
-      box-keeps s a [] [] (empty_box (s.box a).number (s.box a).key (s.box a).now (s.box a).left) (record { now-is = b.now-is; key-is = b.key-is; logins = below-nil (length s.used); askings = below-nil (length s.used) }) o
+      box-keeps s a [] [] (empty_box (s.box a).number (s.box a).key (s.box a).now (s.box a).left) (record { now_is = b.now_is; key_is = b.key_is; logins = below-nil (length s.used); askings = below-nil (length s.used) }) o
 
   first-steady : (t : ℕ) → Steady (first c n t)
   first-steady t =
       record {
         accounts = λ k e. absurd (clash {b = is_absent (account_of (replicate 1024 Absent) k)} (ap (λ (x : Account). is_absent x) (absent-all 1024 k)) (or-false-right (nobody k) (is_absent (account_of (replicate 1024 Absent) k)) e));
-        sides = λ v. record { now-is = refl; number_is = refl };
-        boxes = λ a. record { now-is = refl; key-is = refl; logins = below-nil 0; askings = below-nil 0 };
+        sides = λ v. record { now_is = refl; number_is = refl };
+        boxes = λ a. record { now_is = refl; key_is = refl; logins = below-nil 0; askings = below-nil 0 };
       }
 
   pub row-steady : (t : ℕ) (es : List Act) → Possible c n t es → Steady (run c n t es)

@@ -43,15 +43,15 @@ pub lately-so : (now lag t : ℕ) → lately now lag t ≡ true → Lately 0 lag
 lately-so now lag t h =
     let p = leb-true t now (and_left (leb t now) (leb (now - t) lag) h) in
     let q = leb-true (now - t) lag (and_right (leb t now) (leb (now - t) lag) h) in
-    record { not-ahead = omega arith; not-old = omega arith }
+    record { not_ahead = omega arith; not_old = omega arith }
 
 -- all that a service found right
 pub record Clear (w : View) (t : Ticket) (q : Asking) (d : ℕ) : Type 0 where
-  pub in-time : lately w.side.now w.side.lag q.tick ≡ true
-  pub is-good : over w.side.now t.until ≡ false
+  pub in_time : lately w.side.now w.side.lag q.tick ≡ true
+  pub is_good : over w.side.now t.until ≡ false
   pub is-new : stands d (live_of w.side.now w.side.lag w.kept) ≡ false
-  pub for-me : t.service ≡ w.side.number
-  pub asks-me : q.service ≡ w.side.number
+  pub for_me : t.service ≡ w.side.number
+  pub asks_me : q.service ≡ w.side.number
   pub awake : w.side.wake ≤ w.side.now
   pub writes : w.writes ≡ true
 
@@ -68,11 +68,11 @@ clear w t q d h =
     let p15 = passed _ _ p14.1 in
     let here = not-false _ p10.0 in
     record {
-      in-time = not-false _ p6.0;
-      is-good = p7.0;
+      in_time = not-false _ p6.0;
+      is_good = p7.0;
       is-new = p8.0;
-      for-me = eqb-true _ _ (and_left (eqb t.service w.side.number) (eqb q.service w.side.number) here);
-      asks-me = eqb-true _ _ (and_right (eqb t.service w.side.number) (eqb q.service w.side.number) here);
+      for_me = eqb-true _ _ (and_left (eqb t.service w.side.number) (eqb q.service w.side.number) here);
+      asks_me = eqb-true _ _ (and_right (eqb t.service w.side.number) (eqb q.service w.side.number) here);
       awake = ltb-false _ _ p14.0;
       writes = not-false _ p15.0;
     }
@@ -82,12 +82,12 @@ pub record ClearHome (h : Home) (t : Ticket) (q : Asking) (d : ℕ) : Type 0 whe
   pub known : unknown h.accounts t.reader ≡ false
   pub there : missing h.accounts q ≡ false
   pub is_open : closed h.accounts t.reader ≡ false
-  pub in-time : lately h.side.now h.side.lag q.tick ≡ true
-  pub is-good : over h.side.now t.until ≡ false
+  pub in_time : lately h.side.now h.side.lag q.tick ≡ true
+  pub is_good : over h.side.now t.until ≡ false
   pub is-new : stands d (live_of h.side.now h.side.lag h.kept) ≡ false
   pub for-house : t.service ≡ 0
   pub asks-house : for_house q ≡ true
-  pub a-service : eqb (wanted q) 0 ≡ false
+  pub a_service : eqb (wanted q) 0 ≡ false
   pub awake : h.side.wake ≤ h.side.now
   pub writes : h.writes ≡ true
 
@@ -109,12 +109,12 @@ clear-home h t q d f =
       known = or-false-left (unknown h.accounts t.reader) (missing h.accounts q) p2.0;
       there = or-false-right (unknown h.accounts t.reader) (missing h.accounts q) p2.0;
       is_open = p5.0;
-      in-time = not-false _ p6.0;
-      is-good = p7.0;
+      in_time = not-false _ p6.0;
+      is_good = p7.0;
       is-new = p8.0;
       for-house = eqb-true _ _ (not-false _ mine);
       asks-house = not-false _ (or-false-left (not (for_house q)) (eqb (wanted q) 0) rest);
-      a-service = or-false-right (not (for_house q)) (eqb (wanted q) 0) rest;
+      a_service = or-false-right (not (for_house q)) (eqb (wanted q) 0) rest;
       awake = ltb-false _ _ p14.0;
       writes = not-false _ p15.0;
     }
@@ -124,22 +124,22 @@ module _ (c : Setting) (n : Naming c.own) (m : State) where
   own-ticket : (v : ℕ) (t : Ticket) → v < length c.own → t.service ≡ v → {air : List Term} → Gets air (ticket_term n.name (own_of c.own v) t) → Gets air (ticket (rules_of c n) (body_of n.name t))
   own-ticket v t there e {air} h =
       subst (λ (k : ℕ). Gets air (Term.Lock 1 (Own (n.key_of k)) (body_term (body_of n.name t)))) (sym e)
-      (subst (λ (x : Term). Gets air (Term.Lock 1 x (body_term (body_of n.name t)))) (n.of-own v there) h)
+      (subst (λ (x : Term). Gets air (Term.Lock 1 x (body_term (body_of n.name t)))) (n.of_own v there) h)
 
   -- a service that does something does what the model lets it do
-  pub does-so : (v : ℕ) (w : View) (t : Ticket) (q : Asking) → (v ≡ 0 → ⊥) → v < length c.own → SideOk c n m v w
+  pub does_so : (v : ℕ) (w : View) (t : Ticket) (q : Asking) → (v ≡ 0 → ⊥) → v < length c.own → SideOk c n m v w
       → first_fault (service.conditions w t q (c.digest t.key q.number)) ≡ None
       → Gets m.air (ticket_term n.name (own_of c.own v) t) → Gets m.air (asking_term n.name t.key q)
       → Does (rules_of c n) m (body_of n.name t) (n.name q.number.0) (spell (words_of q.what)) q.tick
-  does-so v w t q service there o h ht hq =
+  does_so v w t q service there o h ht hq =
       record {
-        a-service = λ e. service (sym tv ∙ e);
+        a_service = λ e. service (sym tv ∙ e);
         hears =
             record {
-              ticket-heard = own-ticket v t there tv ht;
-              asking-heard = asking;
-              in-time = subst (λ (x : ℕ). Lately 0 x m.now q.tick) o.lag-is (subst (λ (x : ℕ). Lately 0 w.side.lag x q.tick) o.now-is (lately-so _ _ _ k.in-time));
-              is-good = let e = o.now-is in let g = ltb-false _ _ k.is-good in omega arith;
+              ticket_heard = own-ticket v t there tv ht;
+              asking_heard = asking;
+              in_time = subst (λ (x : ℕ). Lately 0 x m.now q.tick) o.lag_is (subst (λ (x : ℕ). Lately 0 w.side.lag x q.tick) o.now_is (lately-so _ _ _ k.in_time));
+              is_good = let e = o.now_is in let g = ltb-false _ _ k.is_good in omega arith;
               is-new = λ b. new (not_new c n m v w.side.wake w.junk w.kept t.key q.number o.notes (subst (λ (x : ℕ). DoneBefore (rules_of c n) m x (n.name t.key.0) (n.name q.number.0)) tv b));
             };
       }
@@ -148,10 +148,10 @@ module _ (c : Setting) (n : Naming c.own) (m : State) where
       k = clear w t q (c.digest t.key q.number) h
 
       tv : t.service ≡ v
-      tv = k.for-me ∙ o.number_is
+      tv = k.for_me ∙ o.number_is
 
       qv : q.service ≡ v
-      qv = k.asks-me ∙ o.number_is
+      qv = k.asks_me ∙ o.number_is
 
       not-house : for_house q ≡ false
       not-house = go (either (eqb q.service 0))
@@ -168,9 +168,9 @@ module _ (c : Setting) (n : Naming c.own) (m : State) where
       new : (stands (c.digest t.key q.number) (live_of m.now c.lag w.kept) ≡ true) ⊎ (m.now < w.side.wake) → ⊥
       new (inl e) =
           clash e
-          (subst (λ (x : ℕ). stands (c.digest t.key q.number) (live_of x c.lag w.kept) ≡ false) o.now-is
-          (subst (λ (x : ℕ). stands (c.digest t.key q.number) (live_of w.side.now x w.kept) ≡ false) o.lag-is k.is-new))
-      new (inr e) = let a = k.awake in let f = o.now-is in omega arith
+          (subst (λ (x : ℕ). stands (c.digest t.key q.number) (live_of x c.lag w.kept) ≡ false) o.now_is
+          (subst (λ (x : ℕ). stands (c.digest t.key q.number) (live_of w.side.now x w.kept) ≡ false) o.lag_is k.is-new))
+      new (inr e) = let a = k.awake in let f = o.now_is in omega arith
 
   -- what the house grants upon a login the model lets it grant
   pub logs-so : (h : Home) (a : ℕ) (l : Login) → HomeOk c n m h → n.key_of a ≡ a → first_fault (house.login_conditions h a l) ≡ None
@@ -181,18 +181,18 @@ module _ (c : Setting) (n : Naming c.own) (m : State) where
       let p6 = passed _ _ p5.1 in
       let k = o.accounts a p2.0 in
       let name : n.name (own_key h.accounts a).0 ≡ Own a =
-      ap (λ (x : Key). n.name x.0) k.own ∙ n.of-own a k.there ∙ ap (λ (x : ℕ). Own x) alone
+      ap (λ (x : Key). n.name x.0) k.own ∙ n.of_own a k.there ∙ ap (λ (x : ℕ). Own x) alone
       in
       record {
         heard = subst (λ (x : Term). Gets m.air (Term.Lock 4 x (Term.Pair (n.name l.number.0) (Num l.tick)))) name hl;
-        in-time = subst (λ (x : ℕ). Lately 0 x m.now l.tick) o.lag-is (subst (λ (x : ℕ). Lately 0 h.side.lag x l.tick) o.now-is (lately-so _ _ _ (not-false _ p6.0)));
+        in_time = subst (λ (x : ℕ). Lately 0 x m.now l.tick) o.lag_is (subst (λ (x : ℕ). Lately 0 h.side.lag x l.tick) o.now_is (lately-so _ _ _ (not-false _ p6.0)));
         is_open = o.is_open a p5.0;
       }
 
   -- the service for which a ticket is given has an account
   pub wanted-known : (h : Home) (t : Ticket) (q : Asking) (d : ℕ) → ClearHome h t q d → unknown h.accounts (wanted q) ≡ false
   wanted-known h t q d k =
-      subst (λ (b : Bool). (not b && unknown h.accounts (wanted q)) ≡ false) k.a-service
+      subst (λ (b : Bool). (not b && unknown h.accounts (wanted q)) ≡ false) k.a_service
       (subst (λ (b : Bool). (b && (not (eqb (wanted q) 0) && unknown h.accounts (wanted q))) ≡ false) k.asks-house k.there)
 
   -- what the house gives upon a ticket the model lets it give
@@ -202,13 +202,13 @@ module _ (c : Setting) (n : Naming c.own) (m : State) where
   serves-so h t q there o k ht hq =
       record {
         for-house = k.for-house;
-        a-service = λ e. clash (eq-eqb (wanted q) 0 e) k.a-service;
+        a_service = λ e. clash (eq-eqb (wanted q) 0 e) k.a_service;
         hears =
             record {
-              ticket-heard = own-ticket 0 t there k.for-house (subst (λ (x : Key). Gets m.air (ticket_term n.name x t)) o.key-is ht);
-              asking-heard = asking;
-              in-time = subst (λ (x : ℕ). Lately 0 x m.now q.tick) o.lag-is (subst (λ (x : ℕ). Lately 0 h.side.lag x q.tick) o.now-is (lately-so _ _ _ k.in-time));
-              is-good = let e = o.now-is in let g = ltb-false _ _ k.is-good in omega arith;
+              ticket_heard = own-ticket 0 t there k.for-house (subst (λ (x : Key). Gets m.air (ticket_term n.name x t)) o.key_is ht);
+              asking_heard = asking;
+              in_time = subst (λ (x : ℕ). Lately 0 x m.now q.tick) o.lag_is (subst (λ (x : ℕ). Lately 0 h.side.lag x q.tick) o.now_is (lately-so _ _ _ k.in_time));
+              is_good = let e = o.now_is in let g = ltb-false _ _ k.is_good in omega arith;
               is-new = λ b. new (not_new c n m 0 h.side.wake h.junk h.kept t.key q.number o.notes (subst (λ (x : ℕ). DoneBefore (rules_of c n) m x (n.name t.key.0) (n.name q.number.0)) k.for-house b));
             };
         is_open = o.is_open t.reader k.is_open;
@@ -223,6 +223,6 @@ module _ (c : Setting) (n : Naming c.own) (m : State) where
       new : (stands (c.digest t.key q.number) (live_of m.now c.lag h.kept) ≡ true) ⊎ (m.now < h.side.wake) → ⊥
       new (inl e) =
           clash e
-          (subst (λ (x : ℕ). stands (c.digest t.key q.number) (live_of x c.lag h.kept) ≡ false) o.now-is
-          (subst (λ (x : ℕ). stands (c.digest t.key q.number) (live_of h.side.now x h.kept) ≡ false) o.lag-is k.is-new))
-      new (inr e) = let a = k.awake in let f = o.now-is in omega arith
+          (subst (λ (x : ℕ). stands (c.digest t.key q.number) (live_of x c.lag h.kept) ≡ false) o.now_is
+          (subst (λ (x : ℕ). stands (c.digest t.key q.number) (live_of h.side.now x h.kept) ≡ false) o.lag_is k.is-new))
+      new (inr e) = let a = k.awake in let f = o.now_is in omega arith

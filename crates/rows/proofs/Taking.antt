@@ -31,7 +31,7 @@ use Rattle.tickets.proofs.Bools.{either}
 use Rattle.rows.specs.Name.{Bytes, Naming, spell}
 use Rattle.rows.specs.Word.{words_of, letter_term, asking_term, told_sent, told_drawn}
 use Rattle.rows.specs.Setting.{Setting, rules_of}
-use Rattle.rows.specs.System.{System, Box, with-box, with-sent, New, Alone, HeardLetter}
+use Rattle.rows.specs.System.{System, Box, with_box, with_sent, New, Alone, HeardLetter}
 use Rattle.rows.specs.Row.{Wanted, Deed, Given, Begun, Taken, begun_told, taken_told}
 use Rattle.rows.proofs.Pairs.{Pairs, both, down-more, down-low, pairs-at, at_first}
 use Rattle.rows.proofs.Matches.{BoxOk, PendingOk, TicketOk, gets_more, home_stays, side-stays, box-stays, pending-stays, ticket-stays}
@@ -52,7 +52,7 @@ module _ (c : Setting) (n : Naming c.own) {K : List Closing} {p : ℕ} {s : Syst
   ok = o.matches.box a
 
   own_is : n.name (s.box a).key.0 ≡ Own a
-  own_is = ap (λ (x : Bytes32). n.name x.0) ok.key-is ∙ n.of-own a alone.there ∙ ap (λ (x : ℕ). Own x) alone.alone
+  own_is = ap (λ (x : Bytes32). n.name x.0) ok.key_is ∙ n.of_own a alone.there ∙ ap (λ (x : ℕ). Own x) alone.alone
 
   sent-one : (t : State) (x y z : Term) → y ≡ z → t.air ≡ z ∷ o.model.air → Memᴰ x (y ∷ s.air) → Memᴰ x t.air
   sent-one t x y z e f h = subst (λ (u : List Term). Memᴰ x u) (sym f) (go (Memᴰ.cases_cons h))
@@ -102,7 +102,7 @@ module _ (c : Setting) (n : Naming c.own) {K : List Closing} {p : ℕ} {s : Syst
         let came = m.1 in
         let mk = m.2 in
         let u = m.3 in
-        let same-since : m.0.since ≡ x.since = came.same-since ∙ since in
+        let same_since : m.0.since ≡ x.since = came.same_since ∙ since in
         let k = pairs-at o.keys mk (subst (λ (y : List Key). Memᴰ mk y) made u.known) in
         let b = pairs-at o.begun x known in
         let g-key : k.0.key ≡ l.key.0 = n.apart _ _ (sym k.2.key ∙ sym u.same_key ∙ key) in
@@ -110,17 +110,17 @@ module _ (c : Setting) (n : Naming c.own) {K : List Closing} {p : ℕ} {s : Syst
         let b-number : b.0.number ≡ l.number.0 = n.apart _ _ (sym b.2.number ∙ sym number) in (
           k.0,
           at_first k.1,
-          sym k.2.reader ∙ u.for-reader ∙ reader,
+          sym k.2.reader ∙ u.for_reader ∙ reader,
           sym k.2.service ∙ u.for-service ∙ service ∙ ve,
           g-key,
           g-number,
-          down-low (λ (g : Given). g.place) p k.1 o.low-keys,
+          down-low (λ (g : Given). g.place) p k.1 o.low_keys,
           (
             b.0,
             at_first b.1,
             sym b.2.reader ∙ line,
             b-number,
-            (let i = u.not-before in let j = b.2.at in let h = k.2.at in omega arith),
+            (let i = u.not_before in let j = b.2.at in let h = k.2.at in omega arith),
           ),
         )
 
@@ -131,7 +131,7 @@ module _ (c : Setting) (n : Naming c.own) {K : List Closing} {p : ℕ} {s : Syst
   abbrev After : Under → Pending → Type 0
   After u q =
       Tied c n K (suc p)
-      (with-sent (told_sent n.name (took q)) (told_drawn (took q)) (with-box a (chest.asked (letter.stored (letter.settled (s.box a) u l) l tt) l.key l.service q.line) s))
+      (with_sent (told_sent n.name (took q)) (told_drawn (took q)) (with_box a (chest.asked (letter.stored (letter.settled (s.box a) u l) l tt) l.key l.service q.line) s))
       ls gs (begun_told (took q) p a (s.box a).now ++ bs) ds (taken_told (took q) p a l s.stolen ++ xs)
 
   abbrev NewNumber : Type 0
@@ -142,8 +142,8 @@ module _ (c : Setting) (n : Naming c.own) {K : List Closing} {p : ℕ} {s : Syst
   ticket-taken = record { pass = record { id = (s.box a).taken + 1; service = l.service; key = l.key; until = l.until }; ticket = tt }
 
   -- the letter of a login
-  at-login : (q : Pending) → Memᴰ q (s.box a).logins → q.number.0 ≡ l.number.0 → l.service ≡ 0 → Gets s.air (letter_term n.name (s.box a).key l) → NewNumber → After OwnKey q
-  at-login q under same_number house heard-letter new =
+  at_login : (q : Pending) → Memᴰ q (s.box a).logins → q.number.0 ≡ l.number.0 → l.service ≡ 0 → Gets s.air (letter_term n.name (s.box a).key l) → NewNumber → After OwnKey q
+  at_login q under same_number house heard-letter new =
       record {
         events = ev ∷ o.events;
         model = t;
@@ -166,12 +166,12 @@ module _ (c : Setting) (n : Naming c.own) {K : List Closing} {p : ℕ} {s : Syst
         keys = o.keys;
         begun =
             subst (λ (b : Bool). Pairs (SameBegun c n) (cond b (record { place = p; reader = a; number = (number_of (s.box a).left).0; at = (s.box a).now; login = false } ∷ []) [] ++ bs) t.wishes) (sym is-house)
-            (both (record { reader = pend.line.reader; number = sym (drawn-is c n o _ new); at = sym ok.now-is; stage = refl }) o.begun);
+            (both (record { reader = pend.line.reader; number = sym (drawn-is c n o _ new); at = sym ok.now_is; stage = refl }) o.begun);
         deeds = deeds-stay c n ls ls o.model t g.grows (λ y z k. k) o.deeds;
         takens = λ y k. takens y (Memᴰ.cases_cons k);
         since = o.since;
-        low-lines = down-more (λ (w : Wanted). w.place) p (suc p) ls (omega arith) o.low-lines;
-        low-keys = down-more (λ (g : Given). g.place) p (suc p) gs (omega arith) o.low-keys;
+        low_lines = down-more (λ (w : Wanted). w.place) p (suc p) ls (omega arith) o.low_lines;
+        low_keys = down-more (λ (g : Given). g.place) p (suc p) gs (omega arith) o.low_keys;
       }
     where
       is-house : eqb l.service 0 ≡ true
@@ -217,7 +217,7 @@ module _ (c : Setting) (n : Naming c.own) {K : List Closing} {p : ℕ} {s : Syst
       word =
           ap (λ (b : Bool). events.asking (n.name l.key.0) l.service (n.name (number_of (s.box a).left).0) (cond b (Num (get_or (cond b (two_bytes q.line.service) q.line.what).bytes 0 0 * 256 + get_or (cond b (two_bytes q.line.service) q.line.what).bytes 1 0)) (spell (words_of (cond b (two_bytes q.line.service) q.line.what)))) (cond b (s.box a).now q.line.tick)) is-house
           ∙ (let j = drawn-is c n o _ new in
-          let k = ok.now-is in
+          let k = ok.now_is in
           let u = two_bytes_lem q.line.service in
           let v = pend.line.service in
           cc)
@@ -243,8 +243,8 @@ module _ (c : Setting) (n : Naming c.own) {K : List Closing} {p : ℕ} {s : Syst
       mine : BoxOk c n t a (chest.asked (letter.stored (letter.settled (s.box a) OwnKey l) l tt) l.key l.service q.line)
       mine =
           record {
-            now-is = ok.now-is;
-            key-is = ok.key-is;
+            now_is = ok.now_is;
+            key_is = ok.key_is;
             logins = λ y k. logins y (without-there l.number (s.box a).logins y k);
             askings = λ y k e. askings y e (put-cases _ _ y k);
             tickets = λ y k. tickets y (put-cases _ _ y k);
@@ -301,8 +301,8 @@ module _ (c : Setting) (n : Naming c.own) {K : List Closing} {p : ℕ} {s : Syst
         deeds = deeds-stay c n ls ls o.model t g.grows (λ y z k. k) o.deeds;
         takens = λ y k. takens y (Memᴰ.cases_cons k);
         since = o.since;
-        low-lines = down-more (λ (w : Wanted). w.place) p (suc p) ls (omega arith) o.low-lines;
-        low-keys = down-more (λ (g : Given). g.place) p (suc p) gs (omega arith) o.low-keys;
+        low_lines = down-more (λ (w : Wanted). w.place) p (suc p) ls (omega arith) o.low_lines;
+        low_keys = down-more (λ (g : Given). g.place) p (suc p) gs (omega arith) o.low_keys;
       }
     where
       pend : PendingOk c n o.model a AskingHouse q
@@ -314,14 +314,14 @@ module _ (c : Setting) (n : Naming c.own) {K : List Closing} {p : ℕ} {s : Syst
       service-is : x.line.service ≡ l.service
       service-is = pend.line.service ∙ same-service
 
-      a-service : l.service ≡ 0 → ⊥
-      a-service e = (inv.lines x.line (inv.wishes x pend.known).line).a-service (service-is ∙ e)
+      a_service : l.service ≡ 0 → ⊥
+      a_service e = (inv.lines x.line (inv.wishes x pend.known).line).a_service (service-is ∙ e)
 
       no-house : eqb l.service 0 ≡ false
       no-house = go (either (eqb l.service 0))
         where
           go : (eqb l.service 0 ≡ true) ⊎ (eqb l.service 0 ≡ false) → eqb l.service 0 ≡ false
-          go (inl e) = absurd (a-service (eqb-true l.service 0 e))
+          go (inl e) = absurd (a_service (eqb-true l.service 0 e))
           go (inr e) = e
 
       number : n.name l.number.0 ≡ even x.number
@@ -372,8 +372,8 @@ module _ (c : Setting) (n : Naming c.own) {K : List Closing} {p : ℕ} {s : Syst
       mine : BoxOk c n t a (chest.asked (letter.stored (letter.settled (s.box a) (Session k) l) l tt) l.key l.service q.line)
       mine =
           record {
-            now-is = ok.now-is;
-            key-is = ok.key-is;
+            now_is = ok.now_is;
+            key_is = ok.key_is;
             logins = λ y i. let z = ok.logins y i in pending-stays c n {m = o.model} {t = t} a LoggingIn y g.grows.wishes z (other-stage x pend.known number y LoggingIn z asking-no-login);
             askings = λ y i e. askings y e (put-cases _ _ y i);
             tickets = λ y i. tickets y (put-cases _ _ y i);
@@ -383,7 +383,7 @@ module _ (c : Setting) (n : Naming c.own) {K : List Closing} {p : ℕ} {s : Syst
           left y e i = let z = ok.askings y i.0 e in pending-stays c n {m = o.model} {t = t} a AskingHouse y g.grows.wishes z (other-number x pend.known number y AskingHouse z i.1)
 
           askings : (y : Pending) → y.asks ≡ 0 → (y ≡ pending) ⊎ Memᴰ y (without l.number (s.box a).askings) → PendingOk c n t a AskingHouse y
-          askings y e (inl f) = absurd (a-service (sym (ap (λ (z : Pending). z.asks) f) ∙ e))
+          askings y e (inl f) = absurd (a_service (sym (ap (λ (z : Pending). z.asks) f) ∙ e))
           askings y e (inr i) = left y e (without-there l.number (s.box a).askings y i)
 
           tickets : (y : Held (Unit {0})) → (y ≡ ticket-taken) ⊎ Memᴰ y (s.box a).tickets → TicketOk c n t a y
@@ -401,7 +401,7 @@ module _ (c : Setting) (n : Naming c.own) {K : List Closing} {p : ℕ} {s : Syst
       takens y (inr i) = taken-stays c n gs gs bs _ y (λ z i. i) (λ z i. behind (eqb l.service 0) _ bs z i) (o.takens y i)
 
   abbrev Answered : Under → Answer → Box → Type 0
-  Answered u r b = Tied c n K (suc p) (with-sent (told_sent n.name r) (told_drawn r) (with-box a b s)) ls gs (begun_told r p a (s.box a).now ++ bs) ds (taken_told r p a l s.stolen ++ xs)
+  Answered u r b = Tied c n K (suc p) (with_sent (told_sent n.name r) (told_drawn r) (with_box a b s)) ls gs (begun_told r p a (s.box a).now ++ bs) ds (taken_told r p a l s.stolen ++ xs)
 
   -- a letter belongs to what is under way
   found : (u : Under) (q : Pending) → letter.pending_for (s.box a) u l ≡ Some q → HeardLetter c n s a u l → NewNumber → After u q
@@ -410,7 +410,7 @@ module _ (c : Setting) (n : Naming c.own) {K : List Closing} {p : ℕ} {s : Syst
       go : (b : Bool) → eqb l.service 0 ≡ b → cond b (oldest (Login l.number) (s.box a).logins) None ≡ Some q → After OwnKey q
       go true f k =
           let z = oldest-found (Login l.number) (s.box a).logins q k in
-          at-login q z.0 (same-eq _ _ z.1) (eqb-true l.service 0 f) h.letter-heard new
+          at_login q z.0 (same-eq _ _ z.1) (eqb-true l.service 0 f) h.letter_heard new
       go false f k = absurd (let z : ◌≡◌ {A = ℕ} 0 1 = cc in omega arith)
   found (Session k) q e h new =
       let z = oldest-found (AtHouse k l.number l.service) (s.box a).askings q e in
@@ -420,12 +420,12 @@ module _ (c : Setting) (n : Naming c.own) {K : List Closing} {p : ℕ} {s : Syst
       let after-key = and_right (bytes_eq q.key.0 k.0) (bytes_eq q.number.0 l.number.0 && eqb q.line.service l.service) after-asks in
       let m3 = and_left (bytes_eq q.number.0 l.number.0) (eqb q.line.service l.service) after-key in
       let m4 = and_right (bytes_eq q.number.0 l.number.0) (eqb q.line.service l.service) after-key in
-      at-asking k q z.0 (eqb-true q.asks 0 m1) (same-eq _ _ m2) (same-eq _ _ m3) (eqb-true _ _ m4) h.letter-heard new
+      at-asking k q z.0 (eqb-true q.asks 0 m1) (same-eq _ _ m2) (same-eq _ _ m3) (eqb-true _ _ m4) h.letter_heard new
 
   pub takes-so : (u : Under) → HeardLetter c n s a u l → Answered u (letter.taken (s.box a) u l) (letter.taken_after (s.box a) u l tt)
   takes-so u h = go (first_fault (letter.letter_conditions (s.box a) u l)) (letter.pending_for (s.box a) u l) refl refl h.new
     where
-      refused : Tied c n K (suc p) (with-box a (s.box a) s) ls gs bs ds xs
+      refused : Tied c n K (suc p) (with_box a (s.box a) s) ls gs bs ds xs
       refused = unseen c n o _ (matches-box c n s o.model a (s.box a) o.matches ok)
 
       go : (f : Option Fault) (k : Option Pending) → first_fault (letter.letter_conditions (s.box a) u l) ≡ f → letter.pending_for (s.box a) u l ≡ k

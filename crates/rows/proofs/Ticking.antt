@@ -13,7 +13,7 @@ use Rattle.tickets.specs.Event
 use Rattle.tickets.proofs.Known.{Grows}
 use Rattle.rows.specs.Name.{Naming}
 use Rattle.rows.specs.Setting.{Setting, rules_of}
-use Rattle.rows.specs.System.{System, home-side}
+use Rattle.rows.specs.System.{System, home_side}
 use Rattle.rows.specs.Row.{Wanted, Deed, Given, Begun, Taken}
 use Rattle.rows.proofs.Pairs.{down-more}
 use Rattle.rows.proofs.Noting.{notes-later}
@@ -24,15 +24,15 @@ use Rattle.rows.proofs.Tied.{Tied, unseen, deeds-stay}
 abbrev pub waited : ℕ → State → State
 waited d m = record { now = m.now + d; next = m.next; air = m.air; stolen = m.stolen; closed = m.closed; lines = m.lines; wishes = m.wishes; taken = m.taken; made = m.made; asked = m.asked; done = m.done }
 
-at-now : State → ℕ → State
-at-now m x = record { now = x; next = m.next; air = m.air; stolen = m.stolen; closed = m.closed; lines = m.lines; wishes = m.wishes; taken = m.taken; made = m.made; asked = m.asked; done = m.done }
+at_now : State → ℕ → State
+at_now m x = record { now = x; next = m.next; air = m.air; stolen = m.stolen; closed = m.closed; lines = m.lines; wishes = m.wishes; taken = m.taken; made = m.made; asked = m.asked; done = m.done }
 
 pub reach-waited : (r : Rules) (es : List Event) (m : State) → Reach r es m → (d : ℕ) → (fs : List Event) × Reach r fs (waited d m)
-unfolding at-now
-reach-waited r es m h zero = (es, subst (λ (x : ℕ). Reach r es (at-now m x)) (let e : m.now ≡ m.now + 0 = omega arith in e) h)
+unfolding at_now
+reach-waited r es m h zero = (es, subst (λ (x : ℕ). Reach r es (at_now m x)) (let e : m.now ≡ m.now + 0 = omega arith in e) h)
 reach-waited r es m h (suc d) =
     let k = reach-waited r es m h d in
-    (Event.ticks ∷ k.0, subst (λ (x : ℕ). Reach r (Event.ticks ∷ k.0) (at-now m x)) (let e : m.now + d + 1 ≡ m.now + suc d = omega arith in e) (Event.onward k.1 Event.ticks tt))
+    (Event.ticks ∷ k.0, subst (λ (x : ℕ). Reach r (Event.ticks ∷ k.0) (at_now m x)) (let e : m.now + d + 1 ≡ m.now + suc d = omega arith in e) (Event.onward k.1 Event.ticks tt))
 
 -- what a tick is to somebody at now
 clock-on : (now to : ℕ) → clock now to ≡ On → now ≤ to
@@ -45,20 +45,20 @@ clock-on now to h = go (leb (2 ^ 63) to) (ltb to now) refl h
 
 module _ (c : Setting) (n : Naming c.own) {K : List Closing} {p : ℕ} {s : System} {ls : List Wanted} {gs : List Given} {bs : List Begun} {ds : List Deed} {xs : List Taken} (o : Tied c n K p s ls gs bs ds xs) where
   -- nobody goes on
-  home-still : (to : ℕ) (k : Ticked) → (k ≡ On → ⊥) → HomeOk c n o.model (home-side (set_tick s.home.side to k) s.home)
+  home-still : (to : ℕ) (k : Ticked) → (k ≡ On → ⊥) → HomeOk c n o.model (home_side (set_tick s.home.side to k) s.home)
   home-still to On h = absurd (h refl)
   home-still to Back h =
       let m = o.matches.home in
-      record { now-is = m.now-is; lag-is = m.lag-is; number_is = m.number_is; life-is = m.life-is; key-is = m.key-is; accounts = m.accounts; is_open = m.is_open; is-closed = m.is-closed; notes = m.notes }
+      record { now_is = m.now_is; lag_is = m.lag_is; number_is = m.number_is; life_is = m.life_is; key_is = m.key_is; accounts = m.accounts; is_open = m.is_open; is-closed = m.is-closed; notes = m.notes }
   home-still to Stopped h =
       let m = o.matches.home in
-      record { now-is = m.now-is; lag-is = m.lag-is; number_is = m.number_is; life-is = m.life-is; key-is = m.key-is; accounts = m.accounts; is_open = m.is_open; is-closed = m.is-closed; notes = m.notes }
+      record { now_is = m.now_is; lag_is = m.lag_is; number_is = m.number_is; life_is = m.life_is; key_is = m.key_is; accounts = m.accounts; is_open = m.is_open; is-closed = m.is-closed; notes = m.notes }
 
   side-still : (v : ℕ) (to : ℕ) (k : Ticked) → (k ≡ On → ⊥) → SideOk c n o.model v (s.side v)
       → SideOk c n o.model v (view (set_tick (s.side v).side to k) (s.side v).kept (s.side v).junk (s.side v).writes (s.side v).left)
   side-still v to On h m = absurd (h refl)
-  side-still v to Back h m = record { now-is = m.now-is; lag-is = m.lag-is; number_is = m.number_is; notes = m.notes }
-  side-still v to Stopped h m = record { now-is = m.now-is; lag-is = m.lag-is; number_is = m.number_is; notes = m.notes }
+  side-still v to Back h m = record { now_is = m.now_is; lag_is = m.lag_is; number_is = m.number_is; notes = m.notes }
+  side-still v to Stopped h m = record { now_is = m.now_is; lag_is = m.lag_is; number_is = m.number_is; notes = m.notes }
 
   box-still : (a : ℕ) (to : ℕ) (k : Ticked) → (k ≡ On → ⊥) → BoxOk c n o.model a (told_box (s.box a) to k)
   box-still a to On h = absurd (h refl)
@@ -68,7 +68,7 @@ module _ (c : Setting) (n : Naming c.own) {K : List Closing} {p : ℕ} {s : Syst
   still : (to : ℕ) → (clock o.model.now to ≡ On → ⊥)
       → Tied c n K (suc p)
       (record {
-        home = home-side (on_tick s.home.side to) s.home;
+        home = home_side (on_tick s.home.side to) s.home;
         side = λ v. view (on_tick (s.side v).side to) (s.side v).kept (s.side v).junk (s.side v).writes (s.side v).left;
         box = λ a. box_on_tick (s.box a) to;
         air = s.air;
@@ -79,9 +79,9 @@ module _ (c : Setting) (n : Naming c.own) {K : List Closing} {p : ℕ} {s : Syst
       unseen c n o _
       (record {
         net = record { air = o.matches.net.air; next = o.matches.net.next; stolen = o.matches.net.stolen };
-        home = home-still to (clock s.home.side.now to) (λ e. off (ap (λ (x : ℕ). clock x to) (sym o.matches.home.now-is) ∙ e));
-        side = λ v z. side-still v to (clock (s.side v).side.now to) (λ e. off (ap (λ (x : ℕ). clock x to) (sym (o.matches.side v z).now-is) ∙ e)) (o.matches.side v z);
-        box = λ a. box-still a to (clock (s.box a).now to) (λ e. off (ap (λ (x : ℕ). clock x to) (sym (o.matches.box a).now-is) ∙ e));
+        home = home-still to (clock s.home.side.now to) (λ e. off (ap (λ (x : ℕ). clock x to) (sym o.matches.home.now_is) ∙ e));
+        side = λ v z. side-still v to (clock (s.side v).side.now to) (λ e. off (ap (λ (x : ℕ). clock x to) (sym (o.matches.side v z).now_is) ∙ e)) (o.matches.side v z);
+        box = λ a. box-still a to (clock (s.box a).now to) (λ e. off (ap (λ (x : ℕ). clock x to) (sym (o.matches.box a).now_is) ∙ e));
       })
 
   -- everybody goes on
@@ -92,7 +92,7 @@ module _ (c : Setting) (n : Naming c.own) {K : List Closing} {p : ℕ} {s : Syst
     grown : Grows o.model (waited (to - o.model.now) o.model)
     grown =
         record {
-          now-le = omega arith;
+          now_le = omega arith;
           next_le = omega arith;
           thefts = λ a h. h;
           taken = λ a h. h;
@@ -103,15 +103,15 @@ module _ (c : Setting) (n : Naming c.own) {K : List Closing} {p : ℕ} {s : Syst
           done = λ d h. h;
         }
 
-    home-on : (k : Ticked) → k ≡ On → HomeOk c n (waited (to - o.model.now) o.model) (home-side (set_tick s.home.side to k) s.home)
+    home-on : (k : Ticked) → k ≡ On → HomeOk c n (waited (to - o.model.now) o.model) (home_side (set_tick s.home.side to k) s.home)
     home-on On e =
         let m = o.matches.home in
         record {
-          now-is = now-then;
-          lag-is = m.lag-is;
+          now_is = now-then;
+          lag_is = m.lag_is;
           number_is = m.number_is;
-          life-is = m.life-is;
-          key-is = m.key-is;
+          life_is = m.life_is;
+          key_is = m.key_is;
           accounts = m.accounts;
           is_open = m.is_open;
           is-closed =
@@ -125,8 +125,8 @@ module _ (c : Setting) (n : Naming c.own) {K : List Closing} {p : ℕ} {s : Syst
         → SideOk c n (waited (to - o.model.now) o.model) v (view (set_tick (s.side v).side to k) (s.side v).kept (s.side v).junk (s.side v).writes (s.side v).left)
     side-on v On e m =
         record {
-          now-is = now-then;
-          lag-is = m.lag-is;
+          now_is = now-then;
+          lag_is = m.lag_is;
           number_is = m.number_is;
           notes = notes-later c n o.model (waited (to - o.model.now) o.model) v (s.side v).side.wake (s.side v).junk (s.side v).kept (omega arith) (λ d h e. h) m.notes;
         }
@@ -137,8 +137,8 @@ module _ (c : Setting) (n : Naming c.own) {K : List Closing} {p : ℕ} {s : Syst
     box-on a On e =
         let m = o.matches.box a in
         record {
-          now-is = now-then;
-          key-is = m.key-is;
+          now_is = now-then;
+          key_is = m.key_is;
           logins = λ q h. let x = m.logins q h in pending-stays c n {m = o.model} {t = waited (to - o.model.now) o.model} a _ q (λ y z. z) x x.not_taken;
           askings = λ q h z. let x = m.askings q h z in pending-stays c n {m = o.model} {t = waited (to - o.model.now) o.model} a _ q (λ y z. z) x x.not_taken;
           tickets = λ y h. ticket-stays c n {m = o.model} {t = waited (to - o.model.now) o.model} a y (λ q z. z) (m.tickets y h);
@@ -148,7 +148,7 @@ module _ (c : Setting) (n : Naming c.own) {K : List Closing} {p : ℕ} {s : Syst
 
     goes_on : Tied c n K (suc p)
         (record {
-          home = home-side (on_tick s.home.side to) s.home;
+          home = home_side (on_tick s.home.side to) s.home;
           side = λ v. view (on_tick (s.side v).side to) (s.side v).kept (s.side v).junk (s.side v).writes (s.side v).left;
           box = λ a. box_on_tick (s.box a) to;
           air = s.air;
@@ -164,9 +164,9 @@ module _ (c : Setting) (n : Naming c.own) {K : List Closing} {p : ℕ} {s : Syst
           matches =
               record {
                 net = record { air = o.matches.net.air; next = o.matches.net.next; stolen = o.matches.net.stolen };
-                home = home-on (clock s.home.side.now to) (ap (λ (x : ℕ). clock x to) o.matches.home.now-is ∙ on);
-                side = λ v z. side-on v (clock (s.side v).side.now to) (ap (λ (x : ℕ). clock x to) (o.matches.side v z).now-is ∙ on) (o.matches.side v z);
-                box = λ a. box-on a (clock (s.box a).now to) (ap (λ (x : ℕ). clock x to) (o.matches.box a).now-is ∙ on);
+                home = home-on (clock s.home.side.now to) (ap (λ (x : ℕ). clock x to) o.matches.home.now_is ∙ on);
+                side = λ v z. side-on v (clock (s.side v).side.now to) (ap (λ (x : ℕ). clock x to) (o.matches.side v z).now_is ∙ on) (o.matches.side v z);
+                box = λ a. box-on a (clock (s.box a).now to) (ap (λ (x : ℕ). clock x to) (o.matches.box a).now_is ∙ on);
               };
           lines = o.lines;
           keys = o.keys;
@@ -174,14 +174,14 @@ module _ (c : Setting) (n : Naming c.own) {K : List Closing} {p : ℕ} {s : Syst
           deeds = deeds-stay c n ls ls o.model (waited (to - o.model.now) o.model) grown (λ w l h. h) o.deeds;
           takens = o.takens;
           since = o.since;
-          low-lines = down-more (λ (w : Wanted). w.place) p (suc p) ls (omega arith) o.low-lines;
-          low-keys = down-more (λ (g : Given). g.place) p (suc p) gs (omega arith) o.low-keys;
+          low_lines = down-more (λ (w : Wanted). w.place) p (suc p) ls (omega arith) o.low_lines;
+          low_keys = down-more (λ (g : Given). g.place) p (suc p) gs (omega arith) o.low_keys;
         }
 
   pub tells_all : (to : ℕ)
       → Tied c n K (suc p)
       (record {
-        home = home-side (on_tick s.home.side to) s.home;
+        home = home_side (on_tick s.home.side to) s.home;
         side = λ v. view (on_tick (s.side v).side to) (s.side v).kept (s.side v).junk (s.side v).writes (s.side v).left;
         box = λ a. box_on_tick (s.box a) to;
         air = s.air;
@@ -193,7 +193,7 @@ module _ (c : Setting) (n : Naming c.own) {K : List Closing} {p : ℕ} {s : Syst
       go : (k : Ticked) → clock o.model.now to ≡ k
           → Tied c n K (suc p)
           (record {
-            home = home-side (on_tick s.home.side to) s.home;
+            home = home_side (on_tick s.home.side to) s.home;
             side = λ v. view (on_tick (s.side v).side to) (s.side v).kept (s.side v).junk (s.side v).writes (s.side v).left;
             box = λ a. box_on_tick (s.box a) to;
             air = s.air;

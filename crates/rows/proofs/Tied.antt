@@ -59,7 +59,7 @@ module _ (c : Setting) (n : Naming c.own) where
     pub before : line.place < d.place
 
   pub record DeedFact (ls : List Wanted) (m : State) (d : Deed) (e : Done) : Type 0 where
-    pub same-deed : SameDeed d e
+    pub same_deed : SameDeed d e
     pub from : SafeDeed c n d → LineFact ls m d e
 
   -- what is promised of a letter that was taken
@@ -81,8 +81,8 @@ module _ (c : Setting) (n : Naming c.own) where
     pub deeds : Among (DeedFact ls model) ds model.done
     pub takens : (x : Taken) → Memᴰ x xs → TakenFact gs bs x
     pub since : (x : Closing) → Memᴰ x K → Memᴰ x model.closed
-    pub low-lines : Down (λ (w : Wanted). w.place) p ls
-    pub low-keys : Down (λ (g : Given). g.place) p gs
+    pub low_lines : Down (λ (w : Wanted). w.place) p ls
+    pub low_keys : Down (λ (g : Given). g.place) p gs
 
   -- what was told stays told, where the model has grown and lines stand where they stood
   pub deeds-stay : (ls ls' : List Wanted) (m t : State) {ds : List Deed} {es : List Done} → Grows m t
@@ -90,7 +90,7 @@ module _ (c : Setting) (n : Naming c.own) where
   deeds-stay ls ls' m t g lift = among-map fact
     where
       fact : (d : Deed) (e : Done) → DeedFact ls m d e → DeedFact ls' t d e
-      fact d e f = record { same-deed = f.same-deed; from = λ w. line (f.from w) }
+      fact d e f = record { same_deed = f.same_deed; from = λ w. line (f.from w) }
         where
           line : LineFact ls m d e → LineFact ls' t d e
           line x =
@@ -125,6 +125,6 @@ module _ (c : Setting) (n : Naming c.own) where
         deeds = o.deeds;
         takens = o.takens;
         since = o.since;
-        low-lines = down-more (λ (w : Wanted). w.place) p (suc p) ls (omega arith) o.low-lines;
-        low-keys = down-more (λ (g : Given). g.place) p (suc p) gs (omega arith) o.low-keys;
+        low_lines = down-more (λ (w : Wanted). w.place) p (suc p) ls (omega arith) o.low_lines;
+        low_keys = down-more (λ (g : Given). g.place) p (suc p) gs (omega arith) o.low_keys;
       }

@@ -28,7 +28,7 @@ use Rattle.rows.proofs.Sides.{not-false}
 use Rattle.rows.specs.Name.{Bytes, Naming, spell}
 use Rattle.rows.specs.Word.{words_of, login_term, asking_term, told_sent, told_drawn}
 use Rattle.rows.specs.Setting.{Setting, rules_of}
-use Rattle.rows.specs.System.{System, Box, with-box, with-sent, New, Alone, Wanting}
+use Rattle.rows.specs.System.{System, Box, with_box, with_sent, New, Alone, Wanting}
 use Rattle.rows.specs.Row.{Wanted, Deed, Given, Begun, Taken, line_told, begun_told}
 use Rattle.rows.proofs.Pairs.{Pairs, both, there, down-more}
 use Rattle.rows.proofs.Matches.{BoxOk, PendingOk, TicketOk, home_stays, side-stays, box-stays}
@@ -42,8 +42,8 @@ behind true x xs y h = Memᴰ.tail h
 behind false x xs y h = h
 
 -- an asking for the house asks for a service by its number
-pub house-what : (v : ℕ) → get_or (two_bytes v).bytes 0 0 * 256 + get_or (two_bytes v).bytes 1 0 ≡ v
-house-what v = two_bytes_lem v
+pub house_what : (v : ℕ) → get_or (two_bytes v).bytes 0 0 * 256 + get_or (two_bytes v).bytes 1 0 ≡ v
+house_what v = two_bytes_lem v
 
 module _ (c : Setting) (n : Naming c.own) {K : List Closing} {p : ℕ} {s : System} {ls : List Wanted} {gs : List Given} {bs : List Begun} {ds : List Deed} {xs : List Taken} (o : Tied c n K p s ls gs bs ds xs) where
   inv : Inv (rules_of c n) o.model
@@ -54,7 +54,7 @@ module _ (c : Setting) (n : Naming c.own) {K : List Closing} {p : ℕ} {s : Syst
   untaken = go (either (is_in o.model.next o.model.taken))
     where
       go : (is_in o.model.next o.model.taken ≡ true) ⊎ (is_in o.model.next o.model.taken ≡ false) → is_in o.model.next o.model.taken ≡ false
-      go (inl e) = absurd (let l = inv.taken-low o.model.next e in omega arith)
+      go (inl e) = absurd (let l = inv.taken_low o.model.next e in omega arith)
       go (inr e) = e
 
   -- a draw is named by the number that the model draws
@@ -66,7 +66,7 @@ module _ (c : Setting) (n : Naming c.own) {K : List Closing} {p : ℕ} {s : Syst
     ok = o.matches.box a
 
     own_is : n.name (s.box a).key.0 ≡ Own a
-    own_is = ap (λ (x : Bytes32). n.name x.0) ok.key-is ∙ n.of-own a alone.there ∙ ap (λ (x : ℕ). Own x) alone.alone
+    own_is = ap (λ (x : Bytes32). n.name x.0) ok.key_is ∙ n.of_own a alone.there ∙ ap (λ (x : ℕ). Own x) alone.alone
 
     abbrev told : Wanted
     told = record { place = p; reader = a; service = v; what = words_of w; at = (s.box a).now }
@@ -81,7 +81,7 @@ module _ (c : Setting) (n : Naming c.own) {K : List Closing} {p : ℕ} {s : Syst
     -- by no ticket: a login
     login : (v ≡ 0 → ⊥) → n.name (number_of (s.box a).left).0 ≡ even (suc (length s.used))
         → Tied c n K (suc p)
-        (with-sent (told_sent n.name (LogsIn (line.login_of (s.box a)))) (told_drawn (LogsIn (line.login_of (s.box a)))) (with-box a (line.logged_in (line.counted (s.box a)) (line.line_of (s.box a) v w)) s))
+        (with_sent (told_sent n.name (LogsIn (line.login_of (s.box a)))) (told_drawn (LogsIn (line.login_of (s.box a)))) (with_box a (line.logged_in (line.counted (s.box a)) (line.line_of (s.box a) v w)) s))
         (told ∷ ls) gs (begun_told (LogsIn (line.login_of (s.box a))) p a (s.box a).now ++ bs) ds xs
     login service new =
         record {
@@ -100,21 +100,21 @@ module _ (c : Setting) (n : Naming c.own) {K : List Closing} {p : ℕ} {s : Syst
                 side = λ j z. side-stays c n {m = o.model} {t = t} j (s.side j) refl (λ d k f. k) (o.matches.side j z);
                 box = λ j. at-cases (λ (i : ℕ) (x : Box). BoxOk c n t i x) a _ s.box mine j (stays j);
               };
-          lines = both (record { reader = refl; service = refl; what = refl; at = sym ok.now-is }) o.lines;
+          lines = both (record { reader = refl; service = refl; what = refl; at = sym ok.now_is }) o.lines;
           keys = o.keys;
-          begun = both (record { reader = refl; number = sym (drawn-is _ new); at = sym ok.now-is; stage = refl }) o.begun;
+          begun = both (record { reader = refl; number = sym (drawn-is _ new); at = sym ok.now_is; stage = refl }) o.begun;
           deeds = deeds-stay c n ls (told ∷ ls) o.model t g.grows (λ y l h. there h) o.deeds;
           takens = λ x h. taken-stays c n gs gs bs _ x (λ y z. z) (λ y z. Memᴰ.tail z) (o.takens x h);
           since = o.since;
-          low-lines = (omega arith, o.low-lines);
-          low-keys = down-more (λ (g : Given). g.place) p (suc p) gs (omega arith) o.low-keys;
+          low_lines = (omega arith, o.low_lines);
+          low_keys = down-more (λ (g : Given). g.place) p (suc p) gs (omega arith) o.low_keys;
         }
       where
         ev : Event
         ev = events.begins a v (spell (words_of w))
 
         may : events.Wants (rules_of c n) o.model v (spell (words_of w))
-        may = record { a-service = service; writable = gets-spell o.model.air (words_of w) }
+        may = record { a_service = service; writable = gets-spell o.model.air (words_of w) }
 
         t : State
         t = after (rules_of c n) ev o.model
@@ -129,7 +129,7 @@ module _ (c : Setting) (n : Naming c.own) {K : List Closing} {p : ℕ} {s : Syst
         word =
             let i = own_is in
             let j = drawn-is _ new in
-            let k = ok.now-is in
+            let k = ok.now_is in
             cc
 
         stays : (j : ℕ) → BoxOk c n t j (s.box j)
@@ -147,14 +147,14 @@ module _ (c : Setting) (n : Naming c.own) {K : List Closing} {p : ℕ} {s : Syst
               number = drawn-is _ new;
               key = sym own_is;
               not_taken = untaken;
-              line = record { reader = refl; service = refl; what = refl; at = sym ok.now-is };
+              line = record { reader = refl; service = refl; what = refl; at = sym ok.now_is };
             }
 
         mine : BoxOk c n t a (line.logged_in (line.counted (s.box a)) (line.line_of (s.box a) v w))
         mine =
             record {
-              now-is = ok.now-is;
-              key-is = ok.key-is;
+              now_is = ok.now_is;
+              key_is = ok.key_is;
               logins = λ q h. logins q (put-cases _ _ q h);
               askings = (stays a).askings;
               tickets = (stays a).tickets;
@@ -168,8 +168,8 @@ module _ (c : Setting) (n : Naming c.own) {K : List Closing} {p : ℕ} {s : Syst
     by-house : (v ≡ 0 → ⊥) → (q : Pass) → q.service ≡ 0 → (h : Held (Unit {0})) → Memᴰ h (s.box a).tickets → h.pass ≡ q
         → n.name (number_of (s.box a).left).0 ≡ even (suc (length s.used))
         → Tied c n K (suc p)
-        (with-sent (told_sent n.name (Asks q.id (chest.asking_of (s.box a) q.key q.service (line.line_of (s.box a) v w)))) (told_drawn (Asks q.id (chest.asking_of (s.box a) q.key q.service (line.line_of (s.box a) v w))))
-        (with-box a (chest.asked (line.counted (s.box a)) q.key q.service (line.line_of (s.box a) v w)) s))
+        (with_sent (told_sent n.name (Asks q.id (chest.asking_of (s.box a) q.key q.service (line.line_of (s.box a) v w)))) (told_drawn (Asks q.id (chest.asking_of (s.box a) q.key q.service (line.line_of (s.box a) v w))))
+        (with_box a (chest.asked (line.counted (s.box a)) q.key q.service (line.line_of (s.box a) v w)) s))
         (told ∷ ls) gs (begun_told (Asks q.id (chest.asking_of (s.box a) q.key q.service (line.line_of (s.box a) v w))) p a (s.box a).now ++ bs) ds xs
     by-house service q house h held pass new =
         record {
@@ -188,16 +188,16 @@ module _ (c : Setting) (n : Naming c.own) {K : List Closing} {p : ℕ} {s : Syst
                 side = λ j z. side-stays c n {m = o.model} {t = t} j (s.side j) refl (λ d k f. k) (o.matches.side j z);
                 box = λ j. at-cases (λ (i : ℕ) (x : Box). BoxOk c n t i x) a _ s.box mine j (stays j);
               };
-          lines = both (record { reader = tick.reader; service = refl; what = refl; at = sym ok.now-is }) o.lines;
+          lines = both (record { reader = tick.reader; service = refl; what = refl; at = sym ok.now_is }) o.lines;
           keys = o.keys;
           begun =
               subst (λ (b : Bool). Pairs (SameBegun c n) (cond b (record { place = p; reader = a; number = (number_of (s.box a).left).0; at = (s.box a).now; login = false } ∷ []) [] ++ bs) t.wishes) (sym is-house)
-              (both (record { reader = tick.reader; number = sym (drawn-is _ new); at = sym ok.now-is; stage = refl }) o.begun);
+              (both (record { reader = tick.reader; number = sym (drawn-is _ new); at = sym ok.now_is; stage = refl }) o.begun);
           deeds = deeds-stay c n ls (told ∷ ls) o.model t g.grows (λ y l k. there k) o.deeds;
           takens = λ x k. taken-stays c n gs gs bs _ x (λ y z. z) (λ y z. behind (eqb q.service 0) _ bs y z) (o.takens x k);
           since = o.since;
-          low-lines = (omega arith, o.low-lines);
-          low-keys = down-more (λ (g : Given). g.place) p (suc p) gs (omega arith) o.low-keys;
+          low_lines = (omega arith, o.low_lines);
+          low_keys = down-more (λ (g : Given). g.place) p (suc p) gs (omega arith) o.low_keys;
         }
       where
         is-house : eqb q.service 0 ≡ true
@@ -211,8 +211,8 @@ module _ (c : Setting) (n : Naming c.own) {K : List Closing} {p : ℕ} {s : Syst
 
         may : events.HoldsHouse (rules_of c n) o.model tick.asked × events.Wants (rules_of c n) o.model v (spell (words_of w))
         may = (
-          record { known = tick.known; the-house = tick.service ∙ ap (λ (x : Pass). x.service) pass ∙ house },
-          record { a-service = service; writable = gets-spell o.model.air (words_of w) },
+          record { known = tick.known; the_house = tick.service ∙ ap (λ (x : Pass). x.service) pass ∙ house },
+          record { a_service = service; writable = gets-spell o.model.air (words_of w) },
         )
 
         t : State
@@ -230,15 +230,15 @@ module _ (c : Setting) (n : Naming c.own) {K : List Closing} {p : ℕ} {s : Syst
         x₀ : Wish
         x₀ = new_wish o.model l₀ AskingHouse tick.asked.key
 
-        key-is : n.name q.key.0 ≡ tick.asked.key
-        key-is = ap (λ (x : Pass). n.name x.key.0) (sym pass) ∙ sym tick.key
+        key_is : n.name q.key.0 ≡ tick.asked.key
+        key_is = ap (λ (x : Pass). n.name x.key.0) (sym pass) ∙ sym tick.key
 
         word : asking_term n.name q.key (chest.asking_of (s.box a) q.key q.service (line.line_of (s.box a) v w)).inside ≡ events.asking_of q₀
         word =
             ap (λ (b : Bool). events.asking (n.name q.key.0) q.service (n.name (number_of (s.box a).left).0) (cond b (Num (get_or (cond b (two_bytes v) w).bytes 0 0 * 256 + get_or (cond b (two_bytes v) w).bytes 1 0)) (spell (words_of (cond b (two_bytes v) w)))) (cond b (s.box a).now (s.box a).now)) is-house
-            ∙ (let i = key-is in
+            ∙ (let i = key_is in
             let j = drawn-is _ new in
-            let k = ok.now-is in
+            let k = ok.now_is in
             let u = two_bytes_lem v in
             cc)
 
@@ -255,16 +255,16 @@ module _ (c : Setting) (n : Naming c.own) {K : List Closing} {p : ℕ} {s : Syst
               known = Memᴰ.head refl;
               at_stage = refl;
               number = drawn-is _ new;
-              key = sym key-is;
+              key = sym key_is;
               not_taken = untaken;
-              line = record { reader = tick.reader; service = refl; what = refl; at = sym ok.now-is };
+              line = record { reader = tick.reader; service = refl; what = refl; at = sym ok.now_is };
             }
 
         mine : BoxOk c n t a (chest.asked (line.counted (s.box a)) q.key q.service (line.line_of (s.box a) v w))
         mine =
             record {
-              now-is = ok.now-is;
-              key-is = ok.key-is;
+              now_is = ok.now_is;
+              key_is = ok.key_is;
               logins = (stays a).logins;
               askings = λ y k e. askings y e (put-cases _ _ y k);
               tickets = (stays a).tickets;
@@ -275,13 +275,13 @@ module _ (c : Setting) (n : Naming c.own) {K : List Closing} {p : ℕ} {s : Syst
             askings y e (inr k) = (stays a).askings y k e
 
     -- by a ticket for the service: an asking to it
-    by-service : (v ≡ 0 → ⊥) → (q : Pass) → q.service ≡ v → (h : Held (Unit {0})) → Memᴰ h (s.box a).tickets → h.pass ≡ q
+    by_service : (v ≡ 0 → ⊥) → (q : Pass) → q.service ≡ v → (h : Held (Unit {0})) → Memᴰ h (s.box a).tickets → h.pass ≡ q
         → n.name (number_of (s.box a).left).0 ≡ even (suc (length s.used))
         → Tied c n K (suc p)
-        (with-sent (told_sent n.name (Asks q.id (chest.asking_of (s.box a) q.key q.service (line.line_of (s.box a) v w)))) (told_drawn (Asks q.id (chest.asking_of (s.box a) q.key q.service (line.line_of (s.box a) v w))))
-        (with-box a (chest.asked (line.counted (s.box a)) q.key q.service (line.line_of (s.box a) v w)) s))
+        (with_sent (told_sent n.name (Asks q.id (chest.asking_of (s.box a) q.key q.service (line.line_of (s.box a) v w)))) (told_drawn (Asks q.id (chest.asking_of (s.box a) q.key q.service (line.line_of (s.box a) v w))))
+        (with_box a (chest.asked (line.counted (s.box a)) q.key q.service (line.line_of (s.box a) v w)) s))
         (told ∷ ls) gs (begun_told (Asks q.id (chest.asking_of (s.box a) q.key q.service (line.line_of (s.box a) v w))) p a (s.box a).now ++ bs) ds xs
-    by-service service q mine-is h held pass new =
+    by_service service q mine-is h held pass new =
         record {
           events = ev ∷ o.events;
           model = t;
@@ -298,7 +298,7 @@ module _ (c : Setting) (n : Naming c.own) {K : List Closing} {p : ℕ} {s : Syst
                 side = λ j z. side-stays c n {m = o.model} {t = t} j (s.side j) refl (λ d k f. k) (o.matches.side j z);
                 box = λ j. at-cases (λ (i : ℕ) (x : Box). BoxOk c n t i x) a _ s.box mine j (stays j);
               };
-          lines = both (record { reader = tick.reader; service = asked-service; what = refl; at = sym ok.now-is }) o.lines;
+          lines = both (record { reader = tick.reader; service = asked-service; what = refl; at = sym ok.now_is }) o.lines;
           keys = o.keys;
           begun =
               subst (λ (b : Bool). Pairs (SameBegun c n) (cond b (record { place = p; reader = a; number = (number_of (s.box a).left).0; at = (s.box a).now; login = false } ∷ []) [] ++ bs) t.wishes) (sym no-house)
@@ -306,8 +306,8 @@ module _ (c : Setting) (n : Naming c.own) {K : List Closing} {p : ℕ} {s : Syst
           deeds = deeds-stay c n ls (told ∷ ls) o.model t g.grows (λ y l k. there k) o.deeds;
           takens = λ x k. taken-stays c n gs gs bs _ x (λ y z. z) (λ y z. behind (eqb q.service 0) _ bs y z) (o.takens x k);
           since = o.since;
-          low-lines = (omega arith, o.low-lines);
-          low-keys = down-more (λ (g : Given). g.place) p (suc p) gs (omega arith) o.low-keys;
+          low_lines = (omega arith, o.low_lines);
+          low_keys = down-more (λ (g : Given). g.place) p (suc p) gs (omega arith) o.low_keys;
         }
       where
         no-house : eqb q.service 0 ≡ false
@@ -327,7 +327,7 @@ module _ (c : Setting) (n : Naming c.own) {K : List Closing} {p : ℕ} {s : Syst
         ev = events.again tick.asked (spell (words_of w))
 
         may : events.HoldsService (rules_of c n) o.model tick.asked × Gets o.model.air (spell (words_of w))
-        may = (record { known = tick.known; a-service = λ e. service (sym asked-service ∙ e) }, gets-spell o.model.air (words_of w))
+        may = (record { known = tick.known; a_service = λ e. service (sym asked-service ∙ e) }, gets-spell o.model.air (words_of w))
 
         t : State
         t = after (rules_of c n) ev o.model
@@ -341,15 +341,15 @@ module _ (c : Setting) (n : Naming c.own) {K : List Closing} {p : ℕ} {s : Syst
         q₀ : Asked
         q₀ = new_asked o.model l₀ tick.asked.service tick.asked.key (spell (words_of w)) o.model.now tick.asked.upon tick.asked.since
 
-        key-is : n.name q.key.0 ≡ tick.asked.key
-        key-is = ap (λ (x : Pass). n.name x.key.0) (sym pass) ∙ sym tick.key
+        key_is : n.name q.key.0 ≡ tick.asked.key
+        key_is = ap (λ (x : Pass). n.name x.key.0) (sym pass) ∙ sym tick.key
 
         word : asking_term n.name q.key (chest.asking_of (s.box a) q.key q.service (line.line_of (s.box a) v w)).inside ≡ events.asking_of q₀
         word =
             ap (λ (b : Bool). events.asking (n.name q.key.0) q.service (n.name (number_of (s.box a).left).0) (cond b (Num (get_or (cond b (two_bytes v) w).bytes 0 0 * 256 + get_or (cond b (two_bytes v) w).bytes 1 0)) (spell (words_of (cond b (two_bytes v) w)))) (cond b (s.box a).now (s.box a).now)) no-house
-            ∙ (let i = key-is in
+            ∙ (let i = key_is in
             let j = drawn-is _ new in
-            let k = ok.now-is in
+            let k = ok.now_is in
             let u : q.service ≡ tick.asked.service = mine-is ∙ sym asked-service in
             cc)
 
@@ -362,8 +362,8 @@ module _ (c : Setting) (n : Naming c.own) {K : List Closing} {p : ℕ} {s : Syst
         mine : BoxOk c n t a (chest.asked (line.counted (s.box a)) q.key q.service (line.line_of (s.box a) v w))
         mine =
             record {
-              now-is = ok.now-is;
-              key-is = ok.key-is;
+              now_is = ok.now_is;
+              key_is = ok.key_is;
               logins = (stays a).logins;
               askings = λ y k e. askings y e (put-cases _ _ y k);
               tickets = (stays a).tickets;
@@ -375,11 +375,11 @@ module _ (c : Setting) (n : Naming c.own) {K : List Closing} {p : ℕ} {s : Syst
 
     pub wants-so : (by : Option ℕ) → Wanting c n s a v by w
         → Tied c n K (suc p)
-        (with-sent (told_sent n.name (line.wanted (s.box a) v by w)) (told_drawn (line.wanted (s.box a) v by w)) (with-box a (line.wanted_after (s.box a) v by w) s))
+        (with_sent (told_sent n.name (line.wanted (s.box a) v by w)) (told_drawn (line.wanted (s.box a) v by w)) (with_box a (line.wanted_after (s.box a) v by w) s))
         (line_told (line.wanted (s.box a) v by w) told ++ ls) gs (begun_told (line.wanted (s.box a) v by w) p a (s.box a).now ++ bs) ds xs
     wants-so by h = go (line.unread (s.box a).lines v w) (first_fault (line.line_conditions (s.box a) v by)) (line.pass_by by (s.box a).tickets) refl refl h.new
       where
-        refused : Tied c n K (suc p) (with-box a (s.box a) s) ls gs bs ds xs
+        refused : Tied c n K (suc p) (with_box a (s.box a) s) ls gs bs ds xs
         refused = unseen c n o _ (matches-box c n s o.model a (s.box a) o.matches ok)
 
         right : (f : Option Fault) → first_fault (line.line_conditions (s.box a) v by) ≡ None → (eqb v 0 || line.misfit v (line.pass_by by (s.box a).tickets)) ≡ false
@@ -388,9 +388,9 @@ module _ (c : Setting) (n : Naming c.own) {K : List Closing} {p : ℕ} {s : Syst
         go : (b : Bool) (f : Option Fault) (k : Option Pass) → first_fault (line.line_conditions (s.box a) v by) ≡ f → line.pass_by by (s.box a).tickets ≡ k
             → New c n s (told_drawn (cond b (Wrong OutOfRange) (unless f (line.sent_by (s.box a) k (line.line_of (s.box a) v w)) Wrong)))
             → Tied c n K (suc p)
-            (with-sent (told_sent n.name (cond b (Wrong OutOfRange) (unless f (line.sent_by (s.box a) k (line.line_of (s.box a) v w)) Wrong)))
+            (with_sent (told_sent n.name (cond b (Wrong OutOfRange) (unless f (line.sent_by (s.box a) k (line.line_of (s.box a) v w)) Wrong)))
             (told_drawn (cond b (Wrong OutOfRange) (unless f (line.sent_by (s.box a) k (line.line_of (s.box a) v w)) Wrong)))
-            (with-box a (cond b (s.box a) (unless f (line.sent_after (s.box a) k (line.line_of (s.box a) v w)) (λ _. s.box a))) s))
+            (with_box a (cond b (s.box a) (unless f (line.sent_after (s.box a) k (line.line_of (s.box a) v w)) (λ _. s.box a))) s))
             (line_told (cond b (Wrong OutOfRange) (unless f (line.sent_by (s.box a) k (line.line_of (s.box a) v w)) Wrong)) told ++ ls) gs
             (begun_told (cond b (Wrong OutOfRange) (unless f (line.sent_by (s.box a) k (line.line_of (s.box a) v w)) Wrong)) p a (s.box a).now ++ bs) ds xs
         go true f k e g new = refused
@@ -408,8 +408,8 @@ module _ (c : Setting) (n : Naming c.own) {K : List Closing} {p : ℕ} {s : Syst
             Goal : Type 0
             Goal =
                 Tied c n K (suc p)
-                (with-sent (told_sent n.name (Asks q.id (chest.asking_of (s.box a) q.key q.service (line.line_of (s.box a) v w)))) (told_drawn (Asks q.id (chest.asking_of (s.box a) q.key q.service (line.line_of (s.box a) v w))))
-                (with-box a (chest.asked (line.counted (s.box a)) q.key q.service (line.line_of (s.box a) v w)) s))
+                (with_sent (told_sent n.name (Asks q.id (chest.asking_of (s.box a) q.key q.service (line.line_of (s.box a) v w)))) (told_drawn (Asks q.id (chest.asking_of (s.box a) q.key q.service (line.line_of (s.box a) v w))))
+                (with_box a (chest.asked (line.counted (s.box a)) q.key q.service (line.line_of (s.box a) v w)) s))
                 (told ∷ ls) gs (begun_told (Asks q.id (chest.asking_of (s.box a) q.key q.service (line.line_of (s.box a) v w))) p a (s.box a).now ++ bs) ds xs
 
             fits : (eqb q.service 0 || eqb q.service v) ≡ true → (eqb q.service 0 ≡ true) ⊎ (eqb q.service v ≡ true)
@@ -417,4 +417,4 @@ module _ (c : Setting) (n : Naming c.own) {K : List Closing} {p : ℕ} {s : Syst
 
             which : (eqb q.service 0 ≡ true) ⊎ (eqb q.service v ≡ true) → Goal
             which (inl y) = by-house service q (eqb-true q.service 0 y) held.0 held.1 held.2 new
-            which (inr y) = by-service service q (eqb-true q.service v y) held.0 held.1 held.2 new
+            which (inr y) = by_service service q (eqb-true q.service v y) held.0 held.1 held.2 new

@@ -5,8 +5,8 @@
 -- outcome c s e   how the act e is answered in the system s, by the definition that the side's contract cites
 -- Case            acts with the newest first, one more, and its outcome; or a side at hand in place of the acts
 -- stated          how a row says that its act is answered
--- answer_of        how it is answered
--- fault_cases      the table
+-- answer_of       how it is answered
+-- fault_cases     the table
 -- WorkedFaults    each row of it is answered as stated
 --
 -- A word here is one that was opened. That a word locked with another key does not open, fault 3, and that what can't be read

@@ -138,5 +138,5 @@ pub record CanHappen : Type 0 where
   pub again : answer_after naming served ≡ Refused DoneBefore
   pub is-closed : closed (run setting naming 10 happens).home.accounts 1 ≡ true
   pub stolen : (run setting naming 10 happens).stolen ≡ 3 ∷ []
-  pub before-possible : Possible setting naming 10 before
+  pub before_possible : Possible setting naming 10 before
   pub ready : Ready setting naming (run setting naming 10 before) 1 2 words

@@ -1,10 +1,10 @@
 -- From keys, numbers and words in bytes to the model's terms. Assumes nothing.
 --
--- spell bs           bytes that anybody can write
+-- spell bs            bytes that anybody can write
 -- own_name own n bs   the name of the own key with these bytes: the first number from n on that has it
 -- draw_name ds bs     the place of these bytes among the draws, the newest first, counted from the oldest
 -- name_of own ds bs   what key or number these bytes are: an own key, a draw, or what anybody can write
--- Naming             a way to name keys and numbers by which different ones have different names
+-- Naming              a way to name keys and numbers by which different ones have different names
 use Rattle.std.specs.Prelude.{◌≡◌, ℕ, suc, ◌<◌, cond, List, [], ◌∷◌, ◌++◌, length, replicate, Some, None, Option, slice_index_or}
 use Rattle.std.specs.Str.{bytes_eq}
 use Rattle.parts.specs.declared.word.Key.{Key}
@@ -42,7 +42,7 @@ pub record Naming (own : List Key) : Type 0 where
   pub name : Bytes → Term
   pub key_of : ℕ → ℕ
   pub apart : (x y : Bytes) → name x ≡ name y → x ≡ y
-  pub of-own : (n : ℕ) → n < length own → name (own_of own n).0 ≡ Own (key_of n)
+  pub of_own : (n : ℕ) → n < length own → name (own_of own n).0 ≡ Own (key_of n)
 
 -- the draws of a run, the newest first, are apart: none was drawn before, and none is an own key
 unfoldable pub Apart : List Key → List Bytes → Type 0

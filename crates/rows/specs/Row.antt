@@ -219,7 +219,7 @@ module _ (c : Setting) (n : Naming c.own) where
     pub service : l.service ≡ d.service
     pub what : l.what ≡ d.what
     pub before : l.place < d.place
-    pub not-later : l.at ≤ d.at
+    pub not_later : l.at ≤ d.at
     pub lately : d.at ≤ l.at + c.lag
 
   -- each deed has its line, and no two deeds have one line
@@ -262,8 +262,8 @@ module _ (c : Setting) (n : Naming c.own) where
   -- a row is done by events of the model: they lead to a state at the same tick, with the same thefts, in which everything stands that was sent, and each deed
   pub record RunOf (t : ℕ) (es : List Act) (evs : List Event) (m : State) : Type 0 where
     pub reach : Reach (rules_of c n) evs m
-    pub same-tick : (run c n t es).home.side.now ≡ m.now
-    pub same-thefts : m.stolen ≡ (run c n t es).stolen
+    pub same_tick : (run c n t es).home.side.now ≡ m.now
+    pub same_thefts : m.stolen ≡ (run c n t es).stolen
     pub sent : (x : Term) → Memᴰ x (run c n t es).air → Memᴰ x m.air
     pub done : (d : Deed) → Memᴰ d (deeds t es)
         → (e : Done) × Memᴰ e m.done × (e.service ≡ d.service) × (e.who ≡ d.reader) × (e.key ≡ n.name d.key) × (e.number ≡ n.name d.number) × (e.what ≡ spell d.what) × (e.at ≡ d.at)

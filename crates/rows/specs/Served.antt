@@ -1,8 +1,8 @@
 -- Served: from every state of every row, six named acts, line, login, letter, asking, letter, asking, end with a new deed of this line. Assumes nothing.
 --
--- first_login .. service_asking    what the six acts bring: the code's own answers, by the drawn bytes that are left
--- six_calls s a v w               the six acts by which reader a is served by v with words w, in system s
--- six_sent s a v w                what is sent by them
+-- first_login .. service_asking  what the six acts bring: the code's own answers, by the drawn bytes that are left
+-- six_calls s a v w              the six acts by which reader a is served by v with words w, in system s
+-- six_sent s a v w               what is sent by them
 -- Ready s a v w                  what the six acts need
 -- Same s s'                      nothing was stolen, opened or closed, and no tick was told
 -- Served                         in every row that can happen, whoever is ready is served, at the same tick, and nothing else is done
@@ -134,13 +134,13 @@ module _ (c : Setting) (n : Naming c.own) where
     pub reader : Alone c n a
     pub known : unknown s.home.accounts a ≡ false
     pub is_open : closed s.home.accounts a ≡ false
-    pub service-known : unknown s.home.accounts v ≡ false
+    pub service_known : unknown s.home.accounts v ≡ false
     pub words : w.len ≤ 1024
-    pub house-at-work : HouseAtWork s.home
-    pub at-work : AtWork (s.side v)
-    pub box-at-work : BoxAtWork (s.box a)
+    pub house_at_work : HouseAtWork s.home
+    pub at_work : AtWork (s.side v)
+    pub box_at_work : BoxAtWork (s.box a)
     pub draws : NewDraws s.used (five_draws (s.box a) s.home)
-    pub house-digest : stands (c.digest (key_of s.home.left) (number_of (drop 32 (s.box a).left))) (live_of s.home.side.now s.home.side.lag s.home.kept) ≡ false
+    pub house_digest : stands (c.digest (key_of s.home.left) (number_of (drop 32 (s.box a).left))) (live_of s.home.side.now s.home.side.lag s.home.kept) ≡ false
     pub digest : stands (c.digest (key_of (drop 64 s.home.left)) (number_of (drop 32 (drop 32 (s.box a).left)))) (live_of (s.side v).side.now (s.side v).side.lag (s.side v).kept) ≡ false
 
   -- what is sent by the six acts, the newest first: just the words that the later ones of them bring, and a receipt

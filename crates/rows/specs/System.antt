@@ -86,38 +86,38 @@ pub data Act : Type 0 where
 abbrev pub at : {A : Type 0} → ℕ → A → (ℕ → A) → ℕ → A
 at n x f k = cond (k == n) x (f k)
 
-abbrev pub with-home : Home → System → System
-with-home h s = record { home = h; side = s.side; box = s.box; air = s.air; used = s.used; stolen = s.stolen }
+abbrev pub with_home : Home → System → System
+with_home h s = record { home = h; side = s.side; box = s.box; air = s.air; used = s.used; stolen = s.stolen }
 
 abbrev pub with-side : ℕ → View → System → System
 with-side v w s = record { home = s.home; side = at v w s.side; box = s.box; air = s.air; used = s.used; stolen = s.stolen }
 
-abbrev pub with-box : ℕ → Box → System → System
-with-box a b s = record { home = s.home; side = s.side; box = at a b s.box; air = s.air; used = s.used; stolen = s.stolen }
+abbrev pub with_box : ℕ → Box → System → System
+with_box a b s = record { home = s.home; side = s.side; box = at a b s.box; air = s.air; used = s.used; stolen = s.stolen }
 
 -- these words are sent, and these draws used
-abbrev pub with-sent : List Term → List Bytes → System → System
-with-sent ts ds s = record { home = s.home; side = s.side; box = s.box; air = ts ++ s.air; used = ds ++ s.used; stolen = s.stolen }
+abbrev pub with_sent : List Term → List Bytes → System → System
+with_sent ts ds s = record { home = s.home; side = s.side; box = s.box; air = ts ++ s.air; used = ds ++ s.used; stolen = s.stolen }
 
 -- a home with another side, other accounts, another memory, other drawn bytes
-abbrev pub home-side : Side → Home → Home
-home-side x h = record { side = x; life = h.life; key = h.key; accounts = h.accounts; kept = h.kept; junk = h.junk; writes = h.writes; left = h.left }
+abbrev pub home_side : Side → Home → Home
+home_side x h = record { side = x; life = h.life; key = h.key; accounts = h.accounts; kept = h.kept; junk = h.junk; writes = h.writes; left = h.left }
 
-abbrev pub home-accounts : List Account → Home → Home
-home-accounts xs h = record { side = h.side; life = h.life; key = h.key; accounts = xs; kept = h.kept; junk = h.junk; writes = h.writes; left = h.left }
+abbrev pub home_accounts : List Account → Home → Home
+home_accounts xs h = record { side = h.side; life = h.life; key = h.key; accounts = xs; kept = h.kept; junk = h.junk; writes = h.writes; left = h.left }
 
-abbrev pub home-memory : Side → List Entry → Bool → Bool → Home → Home
-home-memory x es j w h = record { side = x; life = h.life; key = h.key; accounts = h.accounts; kept = es; junk = j; writes = w; left = h.left }
+abbrev pub home_memory : Side → List Entry → Bool → Bool → Home → Home
+home_memory x es j w h = record { side = x; life = h.life; key = h.key; accounts = h.accounts; kept = es; junk = j; writes = w; left = h.left }
 
-abbrev pub home-left : Bytes → Home → Home
-home-left bs h = record { side = h.side; life = h.life; key = h.key; accounts = h.accounts; kept = h.kept; junk = h.junk; writes = h.writes; left = bs }
+abbrev pub home_left : Bytes → Home → Home
+home_left bs h = record { side = h.side; life = h.life; key = h.key; accounts = h.accounts; kept = h.kept; junk = h.junk; writes = h.writes; left = bs }
 
 -- a box at another tick, with other drawn bytes, and one that crashed, which is empty
-abbrev pub box-now : ℕ → Box → Box
-box-now t b = record { number = b.number; key = b.key; now = t; lines = b.lines; taken = b.taken; logins = b.logins; tickets = b.tickets; askings = b.askings; left = b.left }
+abbrev pub box_now : ℕ → Box → Box
+box_now t b = record { number = b.number; key = b.key; now = t; lines = b.lines; taken = b.taken; logins = b.logins; tickets = b.tickets; askings = b.askings; left = b.left }
 
-abbrev pub box-left : Bytes → Box → Box
-box-left bs b = record { number = b.number; key = b.key; now = b.now; lines = b.lines; taken = b.taken; logins = b.logins; tickets = b.tickets; askings = b.askings; left = bs }
+abbrev pub box_left : Bytes → Box → Box
+box_left bs b = record { number = b.number; key = b.key; now = b.now; lines = b.lines; taken = b.taken; logins = b.logins; tickets = b.tickets; askings = b.askings; left = bs }
 
 abbrev pub empty_box : ℕ → Key → ℕ → Bytes → Box
 empty_box a k t bs = fresh a t k bs
@@ -138,23 +138,23 @@ view_of h = view h.side h.kept h.junk h.writes h.left
 
 abbrev pub crashed_home : Cut → Home → Home
 crashed_home cut h =
-    home-memory (crashed_view cut (view_of h)).side (crashed_view cut (view_of h)).kept (crashed_view cut (view_of h)).junk h.writes h
+    home_memory (crashed_view cut (view_of h)).side (crashed_view cut (view_of h)).kept (crashed_view cut (view_of h)).junk h.writes h
 
 module _ (c : Setting) (n : Naming c.own) where
   -- what an act leaves; what is refused leaves all as it was, by the definitions of each side
   abbrev pub step : Act → System → System
   step (tells to) s = record {
-    home = home-side (on_tick s.home.side to) s.home;
+    home = home_side (on_tick s.home.side to) s.home;
     side = λ v. view (on_tick (s.side v).side to) (s.side v).kept (s.side v).junk (s.side v).writes (s.side v).left;
     box = λ a. box_on_tick (s.box a) to;
     air = s.air;
     used = s.used;
     stolen = s.stolen;
   }
-  step (hands House bs) s = with-home (home-left (s.home.left ++ bs) s.home) s
+  step (hands House bs) s = with_home (home_left (s.home.left ++ bs) s.home) s
   step (hands (Service v) bs) s =
       with-side v (view (s.side v).side (s.side v).kept (s.side v).junk (s.side v).writes ((s.side v).left ++ bs)) s
-  step (hands (Reader a) bs) s = with-box a (box-left ((s.box a).left ++ bs) (s.box a)) s
+  step (hands (Reader a) bs) s = with_box a (box_left ((s.box a).left ++ bs) (s.box a)) s
   step (steals m) s = record {
     home = s.home;
     side = s.side;
@@ -163,31 +163,31 @@ module _ (c : Setting) (n : Naming c.own) where
     used = s.used;
     stolen = n.key_of m ∷ s.stolen;
   }
-  step (opens m k w) s = with-home (home-accounts (opened_after s.home.accounts m k w) s.home) s
-  step (closes m w) s = with-home (home-accounts (shut_after s.home.accounts m w) s.home) s
+  step (opens m k w) s = with_home (home_accounts (opened_after s.home.accounts m k w) s.home) s
+  step (closes m w) s = with_home (home_accounts (shut_after s.home.accounts m w) s.home) s
   step (wants a v by w) s =
-      with-sent (told_sent n.name (line.wanted (s.box a) v by w)) (told_drawn (line.wanted (s.box a) v by w))
-      (with-box a (line.wanted_after (s.box a) v by w) s)
+      with_sent (told_sent n.name (line.wanted (s.box a) v by w)) (told_drawn (line.wanted (s.box a) v by w))
+      (with_box a (line.wanted_after (s.box a) v by w) s)
   step (logs_in a l) s =
-      with-sent (reply_sent n.name (house.logged_in s.home a l)) (reply_drawn (house.logged_in s.home a l))
-      (with-home (house.login_after s.home a l) s)
+      with_sent (reply_sent n.name (house.logged_in s.home a l)) (reply_drawn (house.logged_in s.home a l))
+      (with_home (house.login_after s.home a l) s)
   step (asks_house t q) s =
-      with-sent (reply_sent n.name (house.answered s.home t q (c.digest t.key q.number)))
+      with_sent (reply_sent n.name (house.answered s.home t q (c.digest t.key q.number)))
       (reply_drawn (house.answered s.home t q (c.digest t.key q.number)))
-      (with-home (house.after s.home t q (c.digest t.key q.number)) s)
+      (with_home (house.after s.home t q (c.digest t.key q.number)) s)
   step (asks v t q) s =
-      with-sent (answer_sent n.name (service.answered (s.side v) t q (c.digest t.key q.number))) []
+      with_sent (answer_sent n.name (service.answered (s.side v) t q (c.digest t.key q.number))) []
       (with-side v (service.after (s.side v) t q (c.digest t.key q.number)) s)
   step (takes a u l) s =
-      with-sent (told_sent n.name (letter.taken (s.box a) u l)) (told_drawn (letter.taken (s.box a) u l))
-      (with-box a (letter.taken_after (s.box a) u l tt) s)
+      with_sent (told_sent n.name (letter.taken (s.box a) u l)) (told_drawn (letter.taken (s.box a) u l))
+      (with_box a (letter.taken_after (s.box a) u l tt) s)
   step (hears who) s = s
-  step (device House w) s = with-home (home-memory s.home.side s.home.kept s.home.junk w s.home) s
+  step (device House w) s = with_home (home_memory s.home.side s.home.kept s.home.junk w s.home) s
   step (device (Service v) w) s = with-side v (view (s.side v).side (s.side v).kept (s.side v).junk w (s.side v).left) s
   step (device (Reader a) w) s = s
-  step (crashes House cut) s = with-home (crashed_home cut s.home) s
+  step (crashes House cut) s = with_home (crashed_home cut s.home) s
   step (crashes (Service v) cut) s = with-side v (crashed_view cut (s.side v)) s
-  step (crashes (Reader a) cut) s = with-box a (empty_box (s.box a).number (s.box a).key (s.box a).now (s.box a).left) s
+  step (crashes (Reader a) cut) s = with_box a (empty_box (s.box a).number (s.box a).key (s.box a).now (s.box a).left) s
 
   -- a draw that is used now has the next name
   abbrev pub New : System → List Bytes → Type 0
@@ -214,7 +214,7 @@ module _ (c : Setting) (n : Naming c.own) where
     pub new : New s (reply_drawn (house.answered s.home t q (c.digest t.key q.number)))
 
   pub record HeardAtService (s : System) (v : ℕ) (t : Ticket) (q : Asking) : Type 0 where
-    pub a-service : v ≡ 0 → ⊥
+    pub a_service : v ≡ 0 → ⊥
     pub there : v < length c.own
     pub ticket : Gets s.air (ticket_term n.name (own_of c.own v) t)
     pub asking : Gets s.air (asking_term n.name t.key q)
@@ -226,7 +226,7 @@ module _ (c : Setting) (n : Naming c.own) where
 
   pub record HeardLetter (s : System) (a : ℕ) (u : Under) (l : Letter) : Type 0 where
     pub reader : Alone a
-    pub letter-heard : Gets s.air (letter_term n.name (under_key (s.box a) u) l)
+    pub letter_heard : Gets s.air (letter_term n.name (under_key (s.box a) u) l)
     pub new : New s (told_drawn (letter.taken (s.box a) u l))
 
   pub record Wanting (s : System) (a v : ℕ) (by : Option ℕ) (w : What) : Type 0 where

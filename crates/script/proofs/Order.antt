@@ -97,11 +97,11 @@ orderly-reader s a h good =
     let fine : (n : ℕ) → Fine n (with_number n (s.readers ++ a ∷ []) + with_number n s.services) =
     λ n. subst (Fine n) (omega (arith, count-push n s.readers a)) (one_more s a h good parts.1 n) in
     record {
-      readers-fit = omega (arith, leb-false 16 (length s.readers) parts.0, length-append s.readers (a ∷ []));
-      services-fit = h.services-fit;
+      readers_fit = omega (arith, leb-false 16 (length s.readers) parts.0, length-append s.readers (a ∷ []));
+      services_fit = h.services_fit;
       one_each = λ n. (fine n).0;
       in-range = λ n. (fine n).1;
-      in-time = h.in-time;
+      in_time = h.in_time;
       from_zero = h.from_zero;
     })
 
@@ -113,11 +113,11 @@ orderly-service s a h good =
     let fine : (n : ℕ) → Fine n (with_number n s.readers + with_number n (s.services ++ a ∷ [])) =
     λ n. subst (Fine n) (omega (arith, count-push n s.services a)) (one_more s a h good parts.1 n) in
     record {
-      readers-fit = h.readers-fit;
-      services-fit = omega (arith, leb-false 8 (length s.services) parts.0, length-append s.services (a ∷ []));
+      readers_fit = h.readers_fit;
+      services_fit = omega (arith, leb-false 8 (length s.services) parts.0, length-append s.services (a ∷ []));
       one_each = λ n. (fine n).0;
       in-range = λ n. (fine n).1;
-      in-time = h.in-time;
+      in_time = h.in_time;
       from_zero = h.from_zero;
     })
 
@@ -133,11 +133,11 @@ orderly-open : (s : Seen) (x : Settings) → Orderly s → Orderly (opened s x).
 orderly-open s x h =
     cond_both (in_range x) _ _ (λ (o : Outcome). Orderly o.town)
     (λ e. record {
-      readers-fit = h.readers-fit;
-      services-fit = h.services-fit;
+      readers_fit = h.readers_fit;
+      services_fit = h.services_fit;
       one_each = h.one_each;
       in-range = h.in-range;
-      in-time = grind (arith, nat_tests);
+      in_time = grind (arith, nat_tests);
       from_zero = λ n. absurd (never-none n);
     })
     (λ _. h)
@@ -148,11 +148,11 @@ orderly-tick s t on h =
     (λ e.
     let parts = or_parts (ltb t s.tick) (leb (2 ^ 63) t) e in
     record {
-      readers-fit = h.readers-fit;
-      services-fit = h.services-fit;
+      readers_fit = h.readers_fit;
+      services_fit = h.services_fit;
       one_each = h.one_each;
       in-range = h.in-range;
-      in-time = leb-false (2 ^ 63) t parts.1;
+      in_time = leb-false (2 ^ 63) t parts.1;
       from_zero = λ n. absurd (on n);
     })
 
@@ -260,11 +260,11 @@ faults-change-nothing s l = kept-heard s (read_of l)
 
 pub nobody-orderly : Orderly nobody
 nobody-orderly = record {
-  readers-fit = omega arith;
-  services-fit = omega arith;
+  readers_fit = omega arith;
+  services_fit = omega arith;
   one_each = λ n. omega arith;
   in-range = λ n some. absurd (omega arith);
-  in-time = omega arith;
+  in_time = omega arith;
   from_zero = λ _. refl;
 }
 

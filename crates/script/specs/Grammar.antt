@@ -1,5 +1,5 @@
 -- What a line of a script says. Assumes nothing.
---   line_of t, rest_of t   the first line of a text, and what comes after its end
+--   line_of t, rest_of t  the first line of a text, and what comes after its end
 --   read_of s             what the line s says; None where it can't be read
 use Rattle.std.specs.Prelude.{ℕ, Bool, cond, ◌||◌, List, [], length, Some, None, codes, Option, ◌==◌, nat_lt, slice_index}
 use Rattle.std.specs.Str.{bytes_eq}

@@ -1,7 +1,7 @@
 -- What holds of the lines that are read, and of every town, whatever its script says. Assumes nothing.
 --   Orderly s    room is kept, numbers are in range and belong to one each, time has an end
 --   after s ls   the town s after it heard the lines ls
---   line_text l   how the line l is written
+--   line_text l  how the line l is written
 use Rattle.std.specs.Prelude.{◌≡◌, ℕ, ◌+◌, ◌-◌, ◌^◌, ◌<◌, ◌≤◌, List, [], ◌∷◌, ◌++◌, length, Some, None, codes, decimal, count_by, nat_eq}
 use Rattle.script.specs.declared.lines.Account.{Account}
 use Rattle.script.specs.declared.lines.Line.{Line}
@@ -21,13 +21,13 @@ holders n s = with_number n s.readers + with_number n s.services
 
 pub record Orderly (s : Seen) : Type 0 where
   -- up to 16 readers and 8 services
-  pub readers-fit : length s.readers ≤ 16
-  pub services-fit : length s.services ≤ 8
+  pub readers_fit : length s.readers ≤ 16
+  pub services_fit : length s.services ≤ 8
   -- a number belongs to one reader or service, and is 1 to 1,023
   pub one_each : (n : ℕ) → holders n s ≤ 1
   pub in-range : (n : ℕ) → 0 < holders n s → (1 ≤ n) × (n ≤ 1023)
   -- ticks stay below 2^63
-  pub in-time : s.tick < 2 ^ 63
+  pub in_time : s.tick < 2 ^ 63
   -- before the first line it is tick 0
   pub from_zero : s.settings ≡ None → s.tick ≡ 0
 

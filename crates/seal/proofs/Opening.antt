@@ -125,8 +125,8 @@ module _ (kind : ℕ) (key : Bytes) where
       absurd (let y : ◌≡◌ {A = ℕ} 0 1 = cc in omega arith))
       (cases_Bool (fits kind key w))
 
-pub opens-again : OpensAgain
-opens-again kind key drawn xs fit = opens-lock kind key drawn xs fit
+pub opens_again : OpensAgain
+opens_again kind key drawn xs fit = opens-lock kind key drawn xs fit
 
 pub opens-only : OpensLocks
 opens-only kind key w xs e = opens-locks kind key w xs e

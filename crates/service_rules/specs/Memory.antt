@@ -1,6 +1,6 @@
 -- What is remembered of things done, the oldest first. Assumes nothing.
 --
--- live_of now lag es        those that are not forgotten yet
+-- live_of now lag es       those that are not forgotten yet
 -- stands d es              a digest stands among them
 -- recorded now lag d es    the live ones, and a new one of this tick
 -- highest es               the highest tick, 0 if there is none

@@ -2,7 +2,7 @@
 --
 -- begun n lag tick es j      a side that starts at a tick with what is remembered; junk makes it wait
 -- started n lag tick es j    a service, whose number is somebody's
--- on_tick s to                a side that was told a tick
+-- on_tick s to               a side that was told a tick
 -- waiting s                  it does nothing now
 use Rattle.std.specs.Prelude.{ℕ, ◌+◌, ◌^◌, Bool, cond, ◌||◌, List, Ok, Err, Result, nat_le, nat_lt}
 use Rattle.parts.specs.Tick.{clock}

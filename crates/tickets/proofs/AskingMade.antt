@@ -21,7 +21,7 @@ module _ {r : Rules} {s : State} (i : Inv r s) where
       holder q e (key-forged k u) = absurd (clash (known-unsafe i m h (subst (Known r s) e k)) safe)
       holder q e (key-given p g) =
           let same : p ≡ m = i.one_key p m g.known h (even-injective p.key m.key (sym g.same_key ∙ e)) in
-          (sym g.for-reader ∙ ap (λ (x : Key). x.who) same, sym g.for-service ∙ ap (λ (x : Key). x.service) same)
+          (sym g.for_reader ∙ ap (λ (x : Key). x.who) same, sym g.for-service ∙ ap (λ (x : Key). x.service) same)
 
       go : (Known r s (even m.key) × Known r s (Pair (Num v) (Pair n (Pair w (Num t)))))
           ⊎ ((q : Asked) × Memᴰ q s.asked × (even m.key ≡ q.key)
@@ -35,13 +35,13 @@ module _ {r : Rules} {s : State} (i : Inv r s) where
             k.0,
             record {
               known = k.1;
-              by-reader = f.0;
-              of-service = v-is;
-              key-for-service = sym f.1 ∙ v-is;
+              by_reader = f.0;
+              of_service = v-is;
+              key_for_service = sym f.1 ∙ v-is;
               same_key = sym k.2;
               same_number = cc;
               in_words = cc;
               at_tick = cc;
-              from-line = (i.asked k.0 k.1).line;
+              from_line = (i.asked k.0 k.1).line;
             },
           )

@@ -12,11 +12,11 @@ use Rattle.tickets.specs.Term.{Term, Num, Drawn, Own, Pair, Lock, Gets, has, num
 use Rattle.tickets.specs.State.{Rules, keep, Key, Asked, Done, State, is_in, is_closed, start}
 use Rattle.tickets.specs.Event
 use Rattle.tickets.specs.Event.{Body, ticket, asking, Event, after, May, DoneBefore, Later, Reach}
-use Rattle.tickets.specs.Promise.{Origin, by-reader, six}
+use Rattle.tickets.specs.Promise.{Origin, by_reader, six}
 use Rattle.tickets.specs.Cases
 use Rattle.tickets.specs.Cases.{runs, waits, Why, NotLately, TicketOver, DoneAlready, Right, Holds, RowHolds, rules, plain, WorkedCases}
 use Rattle.tickets.specs.Cases.{login100, held100, house_ticket, ticket7, wish200, held200, logged_in, asked200, done200, closed300, asks_again, tries, stolen5, as_five, their_house_ticket, their_ticket7, other_ticket7, two_tickets, made_up}
-use Rattle.tickets.specs.Cases.{row_a, row_b201, row_b206, row_c301, row_c-open, row_c1200, row_c1201, row_d, row_e, row_f, row_f-slip, row_g}
+use Rattle.tickets.specs.Cases.{row_a, row_b201, row_b206, row_c301, row_c_open, row_c1200, row_c1201, row_d, row_e, row_f, row_f_slip, row_g}
 use Rattle.tickets.proofs.Bools.{clash, either}
 use Rattle.tickets.proofs.Main.{main}
 
@@ -98,9 +98,9 @@ module _ (k : ℕ → ℕ) where
   unfolding is_in is_closed
   reach-logged_in =
       Event.onward
-      (Event.onward (Event.onward at100 (Event.begins 5 7 (Num 31)) (record { a-service = λ e. omega arith; writable = num 31 }))
+      (Event.onward (Event.onward at100 (Event.begins 5 7 (Num 31)) (record { a_service = λ e. omega arith; writable = num 31 }))
       (Event.grants 5 (even 1) 100)
-      (record { heard = has first; in-time = record { not-ahead = omega arith; not-old = omega arith }; is_open = refl }))
+      (record { heard = has first; in_time = record { not_ahead = omega arith; not_old = omega arith }; is_open = refl }))
       (Event.wants login100 (even 2) 1100)
       (record { known = first; at_stage = refl; not_taken = refl; heard = has (next first) })
 
@@ -110,17 +110,17 @@ module _ (k : ℕ → ℕ) where
       Event.onward
       (Event.onward
       (Event.onward (waited R 100 logged_in reach-logged_in) (Event.wish held100 7 (Num 32))
-      (record { known = first; the-house = refl }, record { a-service = λ e. omega arith; writable = num 32 }))
+      (record { known = first; the_house = refl }, record { a_service = λ e. omega arith; writable = num 32 }))
       (Event.serves house_ticket (even 4) 7 200)
       (record {
         for-house = refl;
-        a-service = λ e. omega arith;
+        a_service = λ e. omega arith;
         hears =
             record {
-              ticket-heard = has (next (next first));
-              asking-heard = has first;
-              in-time = record { not-ahead = omega arith; not-old = omega arith };
-              is-good = omega arith;
+              ticket_heard = has (next (next first));
+              asking_heard = has first;
+              in_time = record { not_ahead = omega arith; not_old = omega arith };
+              is_good = omega arith;
               is-new = λ d. Memᴰ.not-nil d.known;
             };
         is_open = refl;
@@ -131,13 +131,13 @@ module _ (k : ℕ → ℕ) where
   may200 : May R (st asked200) (Event.does ticket7 (even 6) (Num 32) 200)
   may200 =
       record {
-        a-service = λ e. omega arith;
+        a_service = λ e. omega arith;
         hears =
             record {
-              ticket-heard = has (next first);
-              asking-heard = has first;
-              in-time = record { not-ahead = omega arith; not-old = omega arith };
-              is-good = omega arith;
+              ticket_heard = has (next first);
+              asking_heard = has first;
+              in_time = record { not_ahead = omega arith; not_old = omega arith };
+              is_good = omega arith;
               is-new = new-number R (st asked200) 7 (even 5) 12 (refl, tt);
             };
       }
@@ -195,9 +195,9 @@ module _ where
           λ m. m.hears.is-new before,
           (
             record {
-              ticket-heard = (heard-again 1).0;
-              asking-heard = (heard-again 1).1;
-              else-right = others;
+              ticket_heard = (heard-again 1).0;
+              asking_heard = (heard-again 1).1;
+              else_right = others;
               wrong = λ w. w before;
             },
             tt,
@@ -209,7 +209,7 @@ module _ where
       before = record { deed = _; known = first; at-service = refl; same_key = refl; same_number = refl; remembered = omega arith }
 
       others : (y : Why) → (y ≡ DoneAlready → ⊥) → Right plain (runs plain (waits 1 done200) start) ticket7 (even 6) 200 y
-      others NotLately h = record { not-ahead = omega arith; not-old = omega arith }
+      others NotLately h = record { not_ahead = omega arith; not_old = omega arith }
       others TicketOver h = omega arith
       others DoneAlready h = absurd (h refl)
 
@@ -218,13 +218,13 @@ module _ where
       record {
         possible = waited plain 6 done200 reach-plain;
         claimed = (
-          λ m. let l = m.hears.in-time.not-old in omega arith,
+          λ m. let l = m.hears.in_time.not_old in omega arith,
           (
             record {
-              ticket-heard = (heard-again 6).0;
-              asking-heard = (heard-again 6).1;
-              else-right = others;
-              wrong = λ l. let o = l.not-old in omega arith;
+              ticket_heard = (heard-again 6).0;
+              asking_heard = (heard-again 6).1;
+              else_right = others;
+              wrong = λ l. let o = l.not_old in omega arith;
             },
             tt,
           ),
@@ -251,9 +251,9 @@ module _ where
       → Reach plain (tries es) (runs plain (tries es) start)
   reach-tries es l m =
       Event.onward
-      (Event.onward (waited plain 1 es l) (Event.begins 5 7 (Num 33)) (record { a-service = λ e. omega arith; writable = num 33 }))
+      (Event.onward (waited plain 1 es l) (Event.begins 5 7 (Num 33)) (record { a_service = λ e. omega arith; writable = num 33 }))
       (Event.wish held100 7 (Num 34))
-      (record { known = m; the-house = refl }, record { a-service = λ e. omega arith; writable = num 34 })
+      (record { known = m; the_house = refl }, record { a_service = λ e. omega arith; writable = num 34 })
 
   row-c301 : RowHolds row_c301
   unfolding is_closed
@@ -272,7 +272,7 @@ module _ where
         );
       }
 
-  row-c-open : RowHolds row_c-open
+  row-c-open : RowHolds row_c_open
   unfolding is_closed
   row-c-open =
       record {
@@ -280,17 +280,17 @@ module _ where
         claimed = (
           refl,
           (
-            record { heard = has (next first); in-time = record { not-ahead = omega arith; not-old = omega arith }; is_open = refl },
+            record { heard = has (next first); in_time = record { not_ahead = omega arith; not_old = omega arith }; is_open = refl },
             (
               record {
                 for-house = refl;
-                a-service = λ e. omega arith;
+                a_service = λ e. omega arith;
                 hears =
                     record {
-                      ticket-heard = has (next (next (next (next (next (next (next (next first))))))));
-                      asking-heard = has first;
-                      in-time = record { not-ahead = omega arith; not-old = omega arith };
-                      is-good = omega arith;
+                      ticket_heard = has (next (next (next (next (next (next (next (next first))))))));
+                      asking_heard = has first;
+                      in_time = record { not_ahead = omega arith; not_old = omega arith };
+                      is_good = omega arith;
                       is-new = new-number plain (runs plain (tries (waits 100 done200)) start) 0 (even 2) 16 (refl, (refl, tt));
                     };
                 is_open = refl;
@@ -304,7 +304,7 @@ module _ where
   reach-again : (n : ℕ) → Memᴰ held200 (runs plain (waits n closed300) start).asked → Reach plain (asks_again n) (runs plain (asks_again n) start)
   reach-again n m =
       Event.onward (waited plain n closed300 reach-closed) (Event.again held200 (Num 35))
-      (record { known = m; a-service = λ e. omega arith }, num 35)
+      (record { known = m; a_service = λ e. omega arith }, num 35)
 
   row-c1200 : RowHolds row_c1200
   row-c1200 =
@@ -312,13 +312,13 @@ module _ where
         possible =
             Event.onward (reach-again 900 first) (Event.does ticket7 (even 7) (Num 35) 1200)
             (record {
-              a-service = λ e. omega arith;
+              a_service = λ e. omega arith;
               hears =
                   record {
-                    ticket-heard = has (next (next (next first)));
-                    asking-heard = has first;
-                    in-time = record { not-ahead = omega arith; not-old = omega arith };
-                    is-good = omega arith;
+                    ticket_heard = has (next (next (next first)));
+                    asking_heard = has first;
+                    in_time = record { not_ahead = omega arith; not_old = omega arith };
+                    is_good = omega arith;
                     is-new = new-number plain (runs plain (asks_again 900) start) 7 (even 5) 14 (refl, (refl, tt));
                   };
             });
@@ -332,12 +332,12 @@ module _ where
         claimed = (
           refl,
           (
-            λ m. let g = m.hears.is-good in omega arith,
+            λ m. let g = m.hears.is_good in omega arith,
             (
               record {
-                ticket-heard = has (next (next (next first)));
-                asking-heard = has first;
-                else-right = others;
+                ticket_heard = has (next (next (next first)));
+                asking_heard = has first;
+                else_right = others;
                 wrong = λ g. omega arith;
               },
               tt,
@@ -347,14 +347,14 @@ module _ where
       }
     where
       others : (y : Why) → (y ≡ TicketOver → ⊥) → Right plain (runs plain (asks_again 901) start) ticket7 (even 7) 1201 y
-      others NotLately h = record { not-ahead = omega arith; not-old = omega arith }
+      others NotLately h = record { not_ahead = omega arith; not_old = omega arith }
       others TicketOver h = absurd (h refl)
       others DoneAlready h = new-number plain (runs plain (asks_again 901) start) 7 (even 5) 14 (refl, (refl, tt))
 
 -- a ticket for a service for which none was given, and whose key isn't stolen, can't be had
 module _ (r : Rules) (es : List Event) (l : Reach r es (runs r es start)) (v : ℕ) where
   none-opens : is_in (r.key_of v) (runs r es start).stolen ≡ false → Lacks (λ (m : Key). m.service) v (runs r es start).made → Holds r (runs r es start) (Cases.NoneOpens v)
-  none-opens free none = (none-had, λ b n w t e m. none-had b e m.hears.ticket-heard)
+  none-opens free none = (none-had, λ b n w t e m. none-had b e m.hears.ticket_heard)
     where
       none-had : (b : Body) → b.service ≡ v → Gets (runs r es start).air (ticket r b) → ⊥
       none-had b e h =
@@ -400,7 +400,7 @@ module _ where
       Event.onward (Event.onward (waited plain 100 [] Event.here) (Event.steals 5) tt) (Event.grants 5 (Drawn 1) 100)
       (record {
         heard = lock 4 (has first) (pair (odd 0) (num 100));
-        in-time = record { not-ahead = omega arith; not-old = omega arith };
+        in_time = record { not_ahead = omega arith; not_old = omega arith };
         is_open = refl;
       })
 
@@ -417,13 +417,13 @@ module _ where
       Event.onward reach-granted (Event.serves their_house_ticket (Drawn 3) 7 100)
       (record {
         for-house = refl;
-        a-service = λ e. omega arith;
+        a_service = λ e. omega arith;
         hears =
             record {
-              ticket-heard = has first;
-              asking-heard = made_up_lem house-key 0 1 7 100;
-              in-time = record { not-ahead = omega arith; not-old = omega arith };
-              is-good = omega arith;
+              ticket_heard = has first;
+              asking_heard = made_up_lem house-key 0 1 7 100;
+              in_time = record { not_ahead = omega arith; not_old = omega arith };
+              is_good = omega arith;
               is-new = λ d. Memᴰ.not-nil d.known;
             };
         is_open = refl;
@@ -439,13 +439,13 @@ module _ where
   reach-five =
       Event.onward reach-served (Event.does their_ticket7 (Drawn 5) (Num 41) 100)
       (record {
-        a-service = λ e. omega arith;
+        a_service = λ e. omega arith;
         hears =
             record {
-              ticket-heard = has first;
-              asking-heard = made_up_lem (brought (has (next first)) house-key-S) 7 2 41 100;
-              in-time = record { not-ahead = omega arith; not-old = omega arith };
-              is-good = omega arith;
+              ticket_heard = has first;
+              asking_heard = made_up_lem (brought (has (next first)) house-key-S) 7 2 41 100;
+              in_time = record { not_ahead = omega arith; not_old = omega arith };
+              is_good = omega arith;
               is-new = new-number plain s_s 7 (even 2) 5 (refl, tt);
             };
       })
@@ -492,7 +492,7 @@ module _ where
                         record { deed = _; known = first; such = refl; origin = (main plain es6 s6 reach-six).asked-for _ first (λ e. omega arith) refl },
                         (
                           (main plain es6 s6 reach-six).kept _ (next first) refl,
-                          ((main plain es6 s6 reach-six).kept _ first refl, ((main plain es6 s6 reach-six).own-kept 6 refl, tt)),
+                          ((main plain es6 s6 reach-six).kept _ first refl, ((main plain es6 s6 reach-six).own_kept 6 refl, tt)),
                         ),
                       ),
                     ),
@@ -505,7 +505,7 @@ module _ where
       }
     where
       no_line : {d : Done} → Origin plain s6 d → d.who ≡ 5 → ⊥
-      no_line (by-reader q a w) e = lacks-none (λ (x : Asked). x.line.reader) 5 s6.asked (refl, (refl, tt)) q a.known (a.by-reader ∙ e)
+      no_line (by_reader q a w) e = lacks-none (λ (x : Asked). x.line.reader) 5 s6.asked (refl, (refl, tt)) q a.known (a.by_reader ∙ e)
 
 -- what isn't a number isn't in a list of just it
 not-in-one : (x v : ℕ) → (v ≡ x → ⊥) → is_in v (x ∷ []) ≡ false
@@ -535,13 +535,13 @@ module _ (k : ℕ → ℕ) where
   done-by : (v : ℕ) → k v ≡ 7 → (v ≡ 0 → ⊥) → May (rules k) s7 (Event.does (made_up v) (Drawn 3) (Num 51) 200)
   done-by v e h =
       record {
-        a-service = h;
+        a_service = h;
         hears =
             record {
-              ticket-heard = had v e;
-              asking-heard = made_up_lem (odd 0) v 1 51 200;
-              in-time = record { not-ahead = omega arith; not-old = omega arith };
-              is-good = omega arith;
+              ticket_heard = had v e;
+              asking_heard = made_up_lem (odd 0) v 1 51 200;
+              in_time = record { not_ahead = omega arith; not_old = omega arith };
+              is_good = omega arith;
               is-new = new-number (rules k) s7 v (Drawn 1) 3 (refl, (refl, tt));
             };
       }
@@ -583,7 +583,7 @@ module _ where
           let d : ◌≡◌ {A = ℕ} 1 (m.0.key * 2) = cc in
           omega arith
 
-  row-f-slip : RowHolds row_f-slip
+  row-f-slip : RowHolds row_f_slip
   unfolding is_in
   row-f-slip =
       record {
@@ -600,13 +600,13 @@ module _ where
       Event.onward reach-served (Event.serves their_house_ticket (Drawn 5) 7 100)
       (record {
         for-house = refl;
-        a-service = λ e. omega arith;
+        a_service = λ e. omega arith;
         hears =
             record {
-              ticket-heard = has (next (next first));
-              asking-heard = made_up_lem house-key-S 0 2 7 100;
-              in-time = record { not-ahead = omega arith; not-old = omega arith };
-              is-good = omega arith;
+              ticket_heard = has (next (next first));
+              asking_heard = made_up_lem house-key-S 0 2 7 100;
+              in_time = record { not_ahead = omega arith; not_old = omega arith };
+              is_good = omega arith;
               is-new = new-number plain s_s 0 (even 1) 5 (refl, tt);
             };
         is_open = refl;
@@ -622,13 +622,13 @@ module _ where
   reach-one =
       Event.onward reach-two (Event.does their_ticket7 (Drawn 7) (Num 61) 100)
       (record {
-        a-service = λ e. omega arith;
+        a_service = λ e. omega arith;
         hears =
             record {
-              ticket-heard = has (next (next first));
-              asking-heard = made_up_lem (brought (has (next (next (next first)))) house-key-T) 7 3 61 100;
-              in-time = record { not-ahead = omega arith; not-old = omega arith };
-              is-good = omega arith;
+              ticket_heard = has (next (next first));
+              asking_heard = made_up_lem (brought (has (next (next (next first)))) house-key-T) 7 3 61 100;
+              in_time = record { not_ahead = omega arith; not_old = omega arith };
+              is_good = omega arith;
               is-new = new-number plain s_t 7 (even 2) 7 (refl, (refl, tt));
             };
       })
@@ -642,13 +642,13 @@ module _ where
         possible =
             Event.onward reach-one (Event.does other_ticket7 (Drawn 7) (Num 61) 100)
             (record {
-              a-service = λ e. omega arith;
+              a_service = λ e. omega arith;
               hears =
                   record {
-                    ticket-heard = has (next first);
-                    asking-heard = made_up_lem (brought (has (next (next first))) house-key-1) 7 3 61 100;
-                    in-time = record { not-ahead = omega arith; not-old = omega arith };
-                    is-good = omega arith;
+                    ticket_heard = has (next first);
+                    asking_heard = made_up_lem (brought (has (next (next first))) house-key-1) 7 3 61 100;
+                    in_time = record { not_ahead = omega arith; not_old = omega arith };
+                    is_good = omega arith;
                     is-new = new-key plain (runs plain one start) 7 6 (Drawn 7) (refl, (refl, (refl, tt)));
                   };
             });

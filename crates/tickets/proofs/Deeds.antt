@@ -18,9 +18,9 @@ module _ {r : Rules} {s : State} (i : Inv r s) where
       → (b.service ≡ r.house → (m : Key) × GaveKey t (new_done s b n w) m) → DoneOk r t (new_done s b n w)
   done_ok t g b n w at h gave =
       record {
-        past = g.now-le;
+        past = g.now_le;
         thefts = g.thefts;
-        number = known-grows g (number-heard i b.key b.service n w at (gets-known i h.asking-heard));
+        number = known-grows g (number-heard i b.key b.service n w at (gets-known i h.asking_heard));
         ticketed = ticketed (ticket-used i b n w at h);
         answers = λ safe. answers (asking-safe i b n w at h safe);
         gave = gave;
@@ -28,9 +28,9 @@ module _ {r : Rules} {s : State} (i : Inv r s) where
     where
       ticketed : ((m : Key) × MadeFor s b m) ⊎ (Known r s b.key × (is_in (r.key_of b.service) s.stolen ≡ true)) → Ticketed r t (new_done s b n w)
       ticketed (inl (m, f)) =
-          let e = f.same-until in
-          let good = h.is-good in
-          ticket-made m (record { known = g.made m f.known; for-reader = f.for-reader; for-service = f.for-service; same_key = f.same_key }) (omega arith)
+          let e = f.same_until in
+          let good = h.is_good in
+          ticket-made m (record { known = g.made m f.known; for_reader = f.for_reader; for-service = f.for-service; same_key = f.same_key }) (omega arith)
       ticketed (inr (k, st)) = ticket-forged (known-grows g k) st
 
       answers : (q : Asked) × Sent s b n w at q → (q : Asked) × Answers r t (new_done s b n w) q
@@ -38,12 +38,12 @@ module _ {r : Rules} {s : State} (i : Inv r s) where
         q,
         record {
           known = g.asked q f.known;
-          by-reader = f.by-reader;
-          of-service = f.of-service;
+          by_reader = f.by_reader;
+          of_service = f.of_service;
           same_key = f.same_key;
           same_number = f.same_number;
           in_words = f.in_words;
-          in-time = subst (λ (x : ℕ). Lately 0 r.lag s.now x) (sym f.at_tick) h.in-time;
-          from-line = g.lines q.line (i.asked q f.known).line;
+          in_time = subst (λ (x : ℕ). Lately 0 r.lag s.now x) (sym f.at_tick) h.in_time;
+          from_line = g.lines q.line (i.asked q f.known).line;
         },
       )

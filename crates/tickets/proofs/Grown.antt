@@ -23,8 +23,8 @@ grown-cases {A} {P} {xs} (more x p) y h = go (Memᴰ.cases_cons h)
 -- two of a grown list: both were there, one is new, or they are the same new one
 pub data Two {A : Type 0} (P : A → Type 0) (xs : List A) (a e : A) : Type 0 where
   both-old : Memᴰ a xs → Memᴰ e xs → Two P xs a e
-  first-new : P a → Memᴰ e xs → Two P xs a e
-  second-new : Memᴰ a xs → P e → Two P xs a e
+  first_new : P a → Memᴰ e xs → Two P xs a e
+  second_new : Memᴰ a xs → P e → Two P xs a e
   one-new : P a → P e → a ≡ e → Two P xs a e
 
 pub grown-two : {A : Type 0} {P : A → Type 0} {xs ys : List A} → Grown P xs ys → (a e : A) → Memᴰ a ys → Memᴰ e ys → Two P xs a e
@@ -33,8 +33,8 @@ grown-two {A} {P} {xs} (more x p) a e h k = go (Memᴰ.cases_cons h) (Memᴰ.cas
   where
     go : (a ≡ x) ⊎ Memᴰ a xs → (e ≡ x) ⊎ Memᴰ e xs → Two P xs a e
     go (inl i) (inl j) = one-new (subst P (sym i) p) (subst P (sym j) p) (i ∙ sym j)
-    go (inl i) (inr j) = first-new (subst P (sym i) p) j
-    go (inr i) (inl j) = second-new i (subst P (sym j) p)
+    go (inl i) (inr j) = first_new (subst P (sym i) p) j
+    go (inr i) (inl j) = second_new i (subst P (sym j) p)
     go (inr i) (inr j) = both-old i j
 
 -- what was there is there
@@ -51,6 +51,6 @@ unique-grown {A} {P} {xs} f n low new g u a e h k same-f = go (grown-two g a e h
   where
     go : Two P xs a e → a ≡ e
     go (both-old i j) = u a e i j same-f
-    go (first-new p j) = absurd (let x = new a p in let y = low e j in omega arith)
-    go (second-new i p) = absurd (let x = new e p in let y = low a i in omega arith)
+    go (first_new p j) = absurd (let x = new a p in let y = low e j in omega arith)
+    go (second_new i p) = absurd (let x = new e p in let y = low a i in omega arith)
     go (one-new p q i) = i

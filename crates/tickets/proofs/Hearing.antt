@@ -16,8 +16,8 @@ use Rattle.tickets.proofs.Inv.{GivenKey, Under, by-own, by-session, by-forged, H
 -- an asking that was sent, with just this inside
 pub record Sent (s : State) (b : Body) (n w : Term) (t : ℕ) (q : Asked) : Type 0 where
   pub known : Memᴰ q s.asked
-  pub by-reader : q.line.reader ≡ b.who
-  pub of-service : q.service ≡ b.service
+  pub by_reader : q.line.reader ≡ b.who
+  pub of_service : q.service ≡ b.service
   pub same_key : q.key ≡ b.key
   pub same_number : even q.number ≡ n
   pub in_words : q.what ≡ w
@@ -31,9 +31,9 @@ pair-second (Known.pair x y) = y
 
 module _ {r : Rules} {s : State} (i : Inv r s) where
   -- a ticket that may be known was made by the house, or made up with the service's stolen key
-  pub ticket-heard : (b : Body) → Known r s (ticket r b)
+  pub ticket_heard : (b : Body) → Known r s (ticket r b)
       → ((m : Key) × MadeFor s b m) ⊎ (Known r s b.key × (is_in (r.key_of b.service) s.stolen ≡ true))
-  ticket-heard b k = go (ticket-cases k)
+  ticket_heard b k = go (ticket-cases k)
     where
       go : (Known r s (Own (r.key_of b.service)) × Known r s (body_term b))
           ⊎ ((m : Key) × Memᴰ m s.made × (Own (r.key_of b.service) ≡ Own (r.key_of m.service)) × (body_term b ≡ body_term (body_of m)))
@@ -41,7 +41,7 @@ module _ {r : Rules} {s : State} (i : Inv r s) where
       go (inl h) = inr (pair-first (pair-second (pair-second h.1)), own-stolen i (r.key_of b.service) h.0)
       go (inr h) =
           let e = h.3 in
-          inl (h.0, record { known = h.1; for-reader = cc; for-service = cc; same_key = cc; same-until = cc })
+          inl (h.0, record { known = h.1; for_reader = cc; for-service = cc; same_key = cc; same_until = cc })
 
   -- what stands in an asking that may be known may be known
   pub number-heard : (k : Term) (v : ℕ) (n w : Term) (t : ℕ) → Known r s (asking k v n w t) → Known r s n
@@ -57,9 +57,9 @@ module _ {r : Rules} {s : State} (i : Inv r s) where
           subst (Known r s) (sym f) (Known.asking-number h.0 (h.0.number * 2) h.1 refl)
 
   -- an asking under a key that isn't known was sent by whom the key was made for
-  pub asking-heard : (b : Body) (n w : Term) (t : ℕ) (m : Key) → MadeFor s b m → Safe r s.stolen m.who m.service
+  pub asking_heard : (b : Body) (n w : Term) (t : ℕ) (m : Key) → MadeFor s b m → Safe r s.stolen m.who m.service
       → Known r s (asking b.key b.service n w t) → (q : Asked) × Sent s b n w t q
-  asking-heard b n w t m f safe h = go (asking-cases h)
+  asking_heard b n w t m f safe h = go (asking-cases h)
     where
       unknown : Known r s b.key → ⊥
       unknown k = safe-unknown i m f.known safe (m.key * 2) refl (subst (Known r s) f.same_key k)
@@ -69,7 +69,7 @@ module _ {r : Rules} {s : State} (i : Inv r s) where
       holder q e (key-forged k u) = absurd (unknown (subst (Known r s) e k))
       holder q e (key-given p g) =
           let same : p ≡ m = i.one_key p m g.known f.known (even-injective p.key m.key (sym g.same_key ∙ e ∙ f.same_key)) in
-          (sym g.for-reader ∙ ap (λ (x : Key). x.who) same ∙ f.for-reader, sym g.for-service ∙ ap (λ (x : Key). x.service) same ∙ f.for-service)
+          (sym g.for_reader ∙ ap (λ (x : Key). x.who) same ∙ f.for_reader, sym g.for-service ∙ ap (λ (x : Key). x.service) same ∙ f.for-service)
 
       go : (Known r s b.key × Known r s (Pair (Num b.service) (Pair n (Pair w (Num t)))))
           ⊎ ((q : Asked) × Memᴰ q s.asked × (b.key ≡ q.key) × (Pair (Num b.service) (Pair n (Pair w (Num t))) ≡ Pair (Num q.service) (Pair (even q.number) (Pair q.what (Num q.at)))))
@@ -78,12 +78,12 @@ module _ {r : Rules} {s : State} (i : Inv r s) where
       go (inr h) =
           let e = h.3 in
           let w = holder h.0 (sym h.2) (i.asked h.0 h.1).holds in
-          (h.0, record { known = h.1; by-reader = w.0; of-service = w.1; same_key = sym h.2; same_number = cc; in_words = cc; at_tick = cc })
+          (h.0, record { known = h.1; by_reader = w.0; of_service = w.1; same_key = sym h.2; same_number = cc; in_words = cc; at_tick = cc })
 
   -- the ticket by which something is done now
   pub ticket-used : (b : Body) (n w : Term) (t : ℕ) → Hears r s b n w t
       → ((m : Key) × MadeFor s b m) ⊎ (Known r s b.key × (is_in (r.key_of b.service) s.stolen ≡ true))
-  ticket-used b n w t h = ticket-heard b (gets-known i h.ticket-heard)
+  ticket-used b n w t h = ticket_heard b (gets-known i h.ticket_heard)
 
   -- with no key of the three stolen the ticket was made by the house
   pub ticket-safe : (b : Body) (n w : Term) (t : ℕ) → Hears r s b n w t → Safe r s.stolen b.who b.service → (m : Key) × MadeFor s b m
@@ -95,13 +95,13 @@ module _ {r : Rules} {s : State} (i : Inv r s) where
 
   safe-made : (b : Body) (m : Key) → MadeFor s b m → Safe r s.stolen b.who b.service → Safe r s.stolen m.who m.service
   safe-made b m f w =
-      subst (λ (x : ℕ). Safe r s.stolen x m.service) (sym f.for-reader) (subst (λ (x : ℕ). Safe r s.stolen b.who x) (sym f.for-service) w)
+      subst (λ (x : ℕ). Safe r s.stolen x m.service) (sym f.for_reader) (subst (λ (x : ℕ). Safe r s.stolen b.who x) (sym f.for-service) w)
 
   -- and the asking was sent by the reader
   pub asking-safe : (b : Body) (n w : Term) (t : ℕ) → Hears r s b n w t → Safe r s.stolen b.who b.service → (q : Asked) × Sent s b n w t q
   asking-safe b n w t h safe =
       let m = ticket-safe b n w t h safe in
-      asking-heard b n w t m.0 m.1 (safe-made b m.0 m.1 safe) (gets-known i h.asking-heard)
+      asking_heard b n w t m.0 m.1 (safe-made b m.0 m.1 safe) (gets-known i h.asking_heard)
 
   -- and it was not done before
   pub first-time : (b : Body) (n w : Term) (t : ℕ) → Hears r s b n w t → Safe r s.stolen b.who b.service
@@ -119,12 +119,12 @@ module _ {r : Rules} {s : State} (i : Inv r s) where
           let then : Safe r e.stolen e.who e.service = safe-back r e.stolen s.stolen e.who e.service (i.done e k).thefts mine in
           let a = (i.done e k).answers then in
           let same : a.0 ≡ q =
-          i.one-asking a.0 q a.1.known sent.known
+          i.one_asking a.0 q a.1.known sent.known
           (even-injective a.0.number q.number (a.1.same_number ∙ same_number ∙ sym sent.same_number))
           in
           let at : a.0.at ≡ t = ap (λ (x : Asked). x.at) same ∙ sent.at_tick in
-          let early = a.1.in-time.not-ahead in
-          let late = h.in-time.not-old in
+          let early = a.1.in_time.not_ahead in
+          let late = h.in_time.not_old in
           h.is-new (record {
             deed = e;
             known = k;
@@ -137,7 +137,7 @@ module _ {r : Rules} {s : State} (i : Inv r s) where
       go : (m : Key) → MadeFor s b m → (q : Asked) → Sent s b n w t q → Ticketed r s e → ⊥
       go m f q sent (ticket-made p g u) =
           let same : p ≡ m = i.one_key p m g.known f.known (even-injective p.key m.key (sym g.same_key ∙ same_key ∙ f.same_key)) in
-          by q sent (sym g.for-reader ∙ ap (λ (x : Key). x.who) same ∙ f.for-reader)
+          by q sent (sym g.for_reader ∙ ap (λ (x : Key). x.who) same ∙ f.for_reader)
       go m f q sent (ticket-forged j u) =
           safe-unknown i m f.known (safe-made b m f safe) (m.key * 2) refl (subst (Known r s) (same_key ∙ f.same_key) j)
 
@@ -149,7 +149,7 @@ module _ {r : Rules} {s : State} (i : Inv r s) where
       under : (m : Key) → Memᴰ m s.made → Own x.line.reader ≡ m.under → m.upon ≡ even x.number → m.service ≡ r.house → k ≡ even m.key
           → Under r s m → HoldsKey r s x.line.reader k (MadeUpon s x.line.reader r.house k x.number x.since)
       under m j e n v f (by-own o) =
-          key-given m (record { known = j; for-reader = cc; for-service = v; same_key = f; same_number = n; not-before = i.upon-after m x j h n })
+          key-given m (record { known = j; for_reader = cc; for-service = v; same_key = f; same_number = n; not_before = i.upon_after m x j h n })
       under m j e n v f (by-session g o) =
           let c = o.same_key in
           absurd (let z : ◌≡◌ {A = ℕ} 0 1 = cc in omega arith)
@@ -179,7 +179,7 @@ module _ {r : Rules} {s : State} (i : Inv r s) where
 
       unsafe-given : (g : Key) → GivenKey s x.line.reader r.house x.key g → Known r s x.key → Unsafe r s.stolen x.line.reader r.house
       unsafe-given g o w =
-          subst (λ (y : ℕ). Unsafe r s.stolen y r.house) o.for-reader
+          subst (λ (y : ℕ). Unsafe r s.stolen y r.house) o.for_reader
           (subst (λ (y : ℕ). Unsafe r s.stolen g.who y) o.for-service (known-unsafe i g o.known (subst (Known r s) o.same_key w)))
 
       from-unsafe : (m : Key) → Memᴰ m s.made → k ≡ even m.key → Unsafe r s.stolen m.who m.service → Known r s k
@@ -196,11 +196,11 @@ module _ {r : Rules} {s : State} (i : Inv r s) where
           key-given m
           (record {
             known = j;
-            for-reader = sym w.for-reader ∙ ap (λ (y : Key). y.who) same ∙ o.for-reader;
+            for_reader = sym w.for_reader ∙ ap (λ (y : Key). y.who) same ∙ o.for_reader;
             for-service = sv;
             same_key = f;
             same_number = n;
-            not-before = i.upon-after m x j h n;
+            not_before = i.upon_after m x j h n;
           })
       tight g o m j e n sv f (by-forged w hs) =
           loose (unsafe-house r s.stolen x.line.reader r.house hs) (from-unsafe m j f (unsafe-house r s.stolen m.who m.service hs))

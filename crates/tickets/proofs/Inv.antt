@@ -18,7 +18,7 @@ use Rattle.tickets.proofs.Known.{Known}
 -- a session key that was made for this reader and service
 pub record GivenKey (s : State) (who service : ℕ) (key : Term) (m : Key) : Type 0 where
   pub known : Memᴰ m s.made
-  pub for-reader : m.who ≡ who
+  pub for_reader : m.who ≡ who
   pub for-service : m.service ≡ service
   pub same_key : key ≡ even m.key
 
@@ -35,7 +35,7 @@ pub data HoldsKey (r : Rules) (s : State) (who : ℕ) (key : Term) (Made : Key �
 
 pub record LineOk (r : Rules) (s : State) (l : Line) : Type 0 where
   pub low : l.id < s.next
-  pub a-service : l.service ≡ r.house → ⊥
+  pub a_service : l.service ≡ r.house → ⊥
   pub writable : Known r s l.what
 
 pub record WishOk (r : Rules) (s : State) (x : Wish) : Type 0 where
@@ -60,7 +60,7 @@ pub record AskedOk (r : Rules) (s : State) (q : Asked) : Type 0 where
   pub what : Known r s q.what
   pub line : Memᴰ q.line s.lines
   pub holds : HoldsKey r s q.line.reader q.key (MadeUpon s q.line.reader q.service q.key q.upon q.since)
-  pub house-what : q.service ≡ r.house → q.what ≡ Num q.line.service
+  pub house_what : q.service ≡ r.house → q.what ≡ Num q.line.service
   pub as_wanted : (q.service ≡ r.house → ⊥) → AsWanted q
   pub came : (x : Wish) × CameBy r s q x
   pub fresh : Safe r q.stolen q.line.reader r.house
@@ -97,23 +97,23 @@ pub record Inv (r : Rules) (s : State) : Type 0 where
   pub asked : (q : Asked) → Memᴰ q s.asked → AskedOk r s q
   pub done : (d : Done) → Memᴰ d s.done → DoneOk r s d
   pub one_key : (m n : Key) → Memᴰ m s.made → Memᴰ n s.made → m.key ≡ n.key → m ≡ n
-  pub one-asking : (p q : Asked) → Memᴰ p s.asked → Memᴰ q s.asked → p.number ≡ q.number → p ≡ q
+  pub one_asking : (p q : Asked) → Memᴰ p s.asked → Memᴰ q s.asked → p.number ≡ q.number → p ≡ q
   pub one_number : (x y : Wish) → Memᴰ x s.wishes → Memᴰ y s.wishes → x.number ≡ y.number → x ≡ y
-  pub key-no-wish : (m : Key) (x : Wish) → Memᴰ m s.made → Memᴰ x s.wishes → m.key ≡ x.number → ⊥
-  pub key-no-asking : (m : Key) (q : Asked) → Memᴰ m s.made → Memᴰ q s.asked → m.key ≡ q.number → ⊥
+  pub key_no_wish : (m : Key) (x : Wish) → Memᴰ m s.made → Memᴰ x s.wishes → m.key ≡ x.number → ⊥
+  pub key_no_asking : (m : Key) (q : Asked) → Memᴰ m s.made → Memᴰ q s.asked → m.key ≡ q.number → ⊥
   -- a line has one login and one asking for the house; once it asks the house its login is taken; once it asks the service all is taken; and that it does once
-  pub one-wish : (x y : Wish) → Memᴰ x s.wishes → Memᴰ y s.wishes → x.stage ≡ y.stage → x.line.id ≡ y.line.id → x ≡ y
-  pub login-taken : (x y : Wish) → Memᴰ x s.wishes → Memᴰ y s.wishes → x.stage ≡ AskingHouse → y.stage ≡ LoggingIn
+  pub one_wish : (x y : Wish) → Memᴰ x s.wishes → Memᴰ y s.wishes → x.stage ≡ y.stage → x.line.id ≡ y.line.id → x ≡ y
+  pub login_taken : (x y : Wish) → Memᴰ x s.wishes → Memᴰ y s.wishes → x.stage ≡ AskingHouse → y.stage ≡ LoggingIn
       → x.line.id ≡ y.line.id → is_in y.number s.taken ≡ true
-  pub wish-taken : (q : Asked) (x : Wish) → Memᴰ q s.asked → Memᴰ x s.wishes → (q.service ≡ r.house → ⊥)
+  pub wish_taken : (q : Asked) (x : Wish) → Memᴰ q s.asked → Memᴰ x s.wishes → (q.service ≡ r.house → ⊥)
       → q.line.id ≡ x.line.id → is_in x.number s.taken ≡ true
-  pub one-of-line : (p q : Asked) → Memᴰ p s.asked → Memᴰ q s.asked → (p.service ≡ r.house → ⊥) → (q.service ≡ r.house → ⊥)
+  pub one_of_line : (p q : Asked) → Memᴰ p s.asked → Memᴰ q s.asked → (p.service ≡ r.house → ⊥) → (q.service ≡ r.house → ⊥)
       → p.line.id ≡ q.line.id → p ≡ q
   -- a key that was made upon the number of a login or an asking was made after it
-  pub upon-after : (m : Key) (x : Wish) → Memᴰ m s.made → Memᴰ x s.wishes → m.upon ≡ even x.number → x.since ≤ m.at
+  pub upon_after : (m : Key) (x : Wish) → Memᴰ m s.made → Memᴰ x s.wishes → m.upon ≡ even x.number → x.since ≤ m.at
   pub closings : (c : Closing) (m : Key) → Memᴰ c s.closed → Memᴰ m s.made → m.who ≡ c.who → m.at ≤ c.at
-  pub each-once : EachOnce r s.done
-  pub taken-low : (n : ℕ) → is_in n s.taken ≡ true → n < s.next
+  pub each_once : EachOnce r s.done
+  pub taken_low : (n : ℕ) → is_in n s.taken ≡ true → n < s.next
 
 module _ {r : Rules} {s : State} (i : Inv r s) where
   -- a draw of the honest that may be known was drawn
@@ -126,8 +126,8 @@ module _ {r : Rules} {s : State} (i : Inv r s) where
   -- a safe session key isn't known
   pub safe-unknown : (m : Key) → Memᴰ m s.made → Safe r s.stolen m.who m.service → (d : ℕ) → d ≡ m.key * 2 → Known r s (Drawn d) → ⊥
   safe-unknown m h w d e (Known.odd k c f) = omega arith
-  safe-unknown m h w d e (Known.wish-number x c k f) = i.key-no-wish m x h k (omega arith)
-  safe-unknown m h w d e (Known.asking-number q c k f) = i.key-no-asking m q h k (omega arith)
+  safe-unknown m h w d e (Known.wish-number x c k f) = i.key_no_wish m x h k (omega arith)
+  safe-unknown m h w d e (Known.asking-number q c k f) = i.key_no_asking m q h k (omega arith)
   safe-unknown m h w d e (Known.unsafe-key n c k u f) =
       let q : m ≡ n = i.one_key m n h k (omega arith) in
       let v : Safe r s.stolen n.who n.service = subst (λ (x : Key). Safe r s.stolen x.who x.service) q w in
@@ -164,7 +164,7 @@ module _ {r : Rules} {s : State} (i : Inv r s) where
       go (by-session g e) =
           let u : Unsafe r s.stolen g.who g.service = known-unsafe g e.known (subst (Known r s) e.same_key k) in
           let v : Unsafe r s.stolen m.who r.house =
-          subst (λ (x : ℕ). Unsafe r s.stolen x r.house) e.for-reader (subst (λ (x : ℕ). Unsafe r s.stolen g.who x) e.for-service u)
+          subst (λ (x : ℕ). Unsafe r s.stolen x r.house) e.for_reader (subst (λ (x : ℕ). Unsafe r s.stolen g.who x) e.for-service u)
           in
           unsafe-wider r s.stolen m.who m.service v
       go (by-forged e h) = unsafe-house r s.stolen m.who m.service h

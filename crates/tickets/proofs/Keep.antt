@@ -9,23 +9,23 @@ use Rattle.tickets.specs.Term.{Term, even}
 use Rattle.tickets.specs.State.{Rules, Line, Stage, LoggingIn, AskingHouse, Wish, Key, Asked, Done, Closing, State, is_in, relies}
 use Rattle.tickets.specs.Promise.{Answers, MadeUpon, CameBy, Began, WantedBy, GaveKey}
 use Rattle.tickets.proofs.Bools.{Unsafe, clash, any_in-sub}
-use Rattle.tickets.proofs.Grown.{Grown, same, more, Two, both-old, first-new, second-new, one-new, grown-cases, grown-two, unique-grown}
+use Rattle.tickets.proofs.Grown.{Grown, same, more, Two, both-old, first_new, second_new, one-new, grown-cases, grown-two, unique-grown}
 use Rattle.tickets.proofs.Known.{Known, Grows, known-grows}
 use Rattle.tickets.proofs.Inv.{GivenKey, Under, by-own, by-session, by-forged, HoldsKey, key-given, key-forged, LineOk, WishOk, KeyOk, AskedOk, Ticketed, ticket-made, ticket-forged, DoneOk, NotBefore, EachOnce, Inv, known-low}
 
 module _ (r : Rules) {s t : State} (g : Grows s t) where
   pub given-grows : {a v : ℕ} {k : Term} {m : Key} → GivenKey s a v k m → GivenKey t a v k m
-  given-grows {m = m} h = record { known = g.made m h.known; for-reader = h.for-reader; for-service = h.for-service; same_key = h.same_key }
+  given-grows {m = m} h = record { known = g.made m h.known; for_reader = h.for_reader; for-service = h.for-service; same_key = h.same_key }
 
   pub upon-grows : {a v : ℕ} {k : Term} {n f : ℕ} {m : Key} → MadeUpon s a v k n f m → MadeUpon t a v k n f m
   upon-grows {m = m} h =
       record {
         known = g.made m h.known;
-        for-reader = h.for-reader;
+        for_reader = h.for_reader;
         for-service = h.for-service;
         same_key = h.same_key;
         same_number = h.same_number;
-        not-before = h.not-before;
+        not_before = h.not_before;
       }
 
   pub unsafe-grows : (a v : ℕ) → Unsafe r s.stolen a v → Unsafe r t.stolen a v
@@ -40,71 +40,71 @@ module _ (r : Rules) {s t : State} (g : Grows s t) where
   answers-grows {q = q} a =
       record {
         known = g.asked q a.known;
-        by-reader = a.by-reader;
-        of-service = a.of-service;
+        by_reader = a.by_reader;
+        of_service = a.of_service;
         same_key = a.same_key;
         same_number = a.same_number;
         in_words = a.in_words;
-        in-time = a.in-time;
-        from-line = g.lines q.line a.from-line;
+        in_time = a.in_time;
+        from_line = g.lines q.line a.from_line;
       }
 
   began-grows : {m : Key} {x : Wish} → Began r s m x → Began r t m x
   began-grows {x = x} b =
       record {
         known = g.wishes x b.known;
-        at-login = b.at-login;
-        by-reader = b.by-reader;
+        at_login = b.at_login;
+        by_reader = b.by_reader;
         same_number = b.same_number;
-        in-time = b.in-time;
-        from-line = g.lines x.line b.from-line;
+        in_time = b.in_time;
+        from_line = g.lines x.line b.from_line;
       }
 
   wanted-grows : {m : Key} {q : Asked} → WantedBy r s m q → WantedBy r t m q
   wanted-grows {q = q} b =
       record {
         known = g.asked q b.known;
-        by-reader = b.by-reader;
-        of-house = b.of-house;
+        by_reader = b.by_reader;
+        of_house = b.of_house;
         for-service = b.for-service;
         same_key = b.same_key;
         same_number = b.same_number;
-        in-time = b.in-time;
-        from-line = g.lines q.line b.from-line;
+        in_time = b.in_time;
+        from_line = g.lines q.line b.from_line;
       }
 
   gave-grows : {d : Done} {m : Key} → GaveKey s d m → GaveKey t d m
   gave-grows {m = m} b =
       record {
         known = g.made m b.known;
-        for-reader = b.for-reader;
+        for_reader = b.for_reader;
         for-service = b.for-service;
         same_number = b.same_number;
         same_key = b.same_key;
-        same-tick = b.same-tick;
+        same_tick = b.same_tick;
       }
 
   pub came-grows : {q : Asked} {x : Wish} → CameBy r s q x → CameBy r t q x
   came-grows {x = x} b =
       record {
         known = g.wishes x b.known;
-        by-reader = b.by-reader;
+        by_reader = b.by_reader;
         same_number = b.same_number;
-        same-since = b.same-since;
+        same_since = b.same_since;
         login = b.login;
         asking = b.asking;
         for-service = b.for-service;
-        from-line = g.lines x.line b.from-line;
+        from_line = g.lines x.line b.from_line;
       }
 
   line-grows : (l : Line) → LineOk r s l → LineOk r t l
-  line-grows l o = record { low = let p = g.next_le in let q = o.low in omega arith; a-service = o.a-service; writable = known-grows g o.writable }
+  line-grows l o = record { low = let p = g.next_le in let q = o.low in omega arith; a_service = o.a_service; writable = known-grows g o.writable }
 
   wish-grows : (x : Wish) → WishOk r s x → WishOk r t x
   wish-grows x o =
       record {
         low = let p = g.next_le in let q = o.low in omega arith;
-        past = let p = g.now-le in let q = o.past in omega arith;
+        past = let p = g.now_le in let q = o.past in omega arith;
         line = g.lines x.line o.line;
         holds = λ e. go (o.holds e);
       }
@@ -118,7 +118,7 @@ module _ (r : Rules) {s t : State} (g : Grows s t) where
   key-grows m o =
       record {
         low = let p = g.next_le in let q = o.low in omega arith;
-        past = let p = g.now-le in let q = o.past in omega arith;
+        past = let p = g.now_le in let q = o.past in omega arith;
         lives = o.lives;
         thefts = λ a h. g.thefts a (o.thefts a h);
         upon = known-grows g o.upon;
@@ -135,7 +135,7 @@ module _ (r : Rules) {s t : State} (g : Grows s t) where
         what = known-grows g o.what;
         line = g.lines q.line o.line;
         holds = go o.holds;
-        house-what = o.house-what;
+        house_what = o.house_what;
         as_wanted = o.as_wanted;
         came = let b = o.came in (b.0, came-grows b.1);
         fresh = λ w. let b = o.fresh w in (b.0, upon-grows b.1);
@@ -149,7 +149,7 @@ module _ (r : Rules) {s t : State} (g : Grows s t) where
   done-grows : (d : Done) → DoneOk r s d → DoneOk r t d
   done-grows d o =
       record {
-        past = let p = g.now-le in let q = o.past in omega arith;
+        past = let p = g.now_le in let q = o.past in omega arith;
         thefts = λ a h. g.thefts a (o.thefts a h);
         number = known-grows g o.number;
         ticketed = go o.ticketed;
@@ -186,10 +186,10 @@ pub record NewWish (r : Rules) (s t : State) (x : Wish) : Type 0 where
 pub record NewKey (r : Rules) (s t : State) (m : Key) : Type 0 where
   pub ok : KeyOk r t m
   pub fresh : m.key ≡ s.next
-  pub at-now : m.at ≡ s.now
+  pub at_now : m.at ≡ s.now
   pub is_open : (c : Closing) → Memᴰ c t.closed → c.who ≡ m.who → ⊥
-  pub no-wish : (x : Wish) → Memᴰ x t.wishes → Memᴰ x s.wishes
-  pub no-asking : (q : Asked) → Memᴰ q t.asked → Memᴰ q s.asked
+  pub no_wish : (x : Wish) → Memᴰ x t.wishes → Memᴰ x s.wishes
+  pub no_asking : (q : Asked) → Memᴰ q t.asked → Memᴰ q s.asked
 
 pub record NewAsked (r : Rules) (s t : State) (q : Asked) : Type 0 where
   pub ok : AskedOk r t q
@@ -265,17 +265,17 @@ module _ {r : Rules} {s t : State} (i : Inv r s) (c : Change r s t) where
   keeps-no-wish m x h k e = go (grown-cases c.made m h) (grown-cases c.wishes x k)
     where
       go : Memᴰ m s.made ⊎ NewKey r s t m → Memᴰ x s.wishes ⊎ NewWish r s t x → ⊥
-      go (inl a) (inl b) = i.key-no-wish m x a b e
+      go (inl a) (inl b) = i.key_no_wish m x a b e
       go (inl a) (inr n) = let l = (i.made m a).low in let f = n.fresh in omega arith
-      go (inr n) p = let l = (i.wishes x (n.no-wish x k)).low in let f = n.fresh in omega arith
+      go (inr n) p = let l = (i.wishes x (n.no_wish x k)).low in let f = n.fresh in omega arith
 
   keeps-no-asking : (m : Key) (q : Asked) → Memᴰ m t.made → Memᴰ q t.asked → m.key ≡ q.number → ⊥
   keeps-no-asking m q h k e = go (grown-cases c.made m h) (grown-cases c.asked q k)
     where
       go : Memᴰ m s.made ⊎ NewKey r s t m → Memᴰ q s.asked ⊎ NewAsked r s t q → ⊥
-      go (inl a) (inl b) = i.key-no-asking m q a b e
+      go (inl a) (inl b) = i.key_no_asking m q a b e
       go (inl a) (inr n) = let l = (i.made m a).low in let f = n.fresh in omega arith
-      go (inr n) p = let l = (i.asked q (n.no-asking q k)).low in let f = n.fresh in omega arith
+      go (inr n) p = let l = (i.asked q (n.no_asking q k)).low in let f = n.fresh in omega arith
 
   -- a new wish and an old one of the same line are of different stages
   new-wish-apart : (x y : Wish) → NewWish r s t x → Memᴰ y s.wishes → x.stage ≡ y.stage → x.line.id ≡ y.line.id → ⊥
@@ -283,15 +283,15 @@ module _ {r : Rules} {s t : State} (i : Inv r s) (c : Change r s t) where
     where
       go : WishFrom s t x → ⊥
       go (new_line_lem d) = let l = wish-id y h in omega arith
-      go (went_on z k a b d p q) = clash (i.login-taken y z h k (sym e ∙ b) a (sym f ∙ d)) p
+      go (went_on z k a b d p q) = clash (i.login_taken y z h k (sym e ∙ b) a (sym f ∙ d)) p
 
   keeps-one-wish : (x y : Wish) → Memᴰ x t.wishes → Memᴰ y t.wishes → x.stage ≡ y.stage → x.line.id ≡ y.line.id → x ≡ y
   keeps-one-wish x y h k e f = go (grown-two c.wishes x y h k)
     where
       go : Two (NewWish r s t) s.wishes x y → x ≡ y
-      go (both-old a b) = i.one-wish x y a b e f
-      go (first-new n b) = absurd (new-wish-apart x y n b e f)
-      go (second-new a n) = absurd (new-wish-apart y x n a (sym e) (sym f))
+      go (both-old a b) = i.one_wish x y a b e f
+      go (first_new n b) = absurd (new-wish-apart x y n b e f)
+      go (second_new a n) = absurd (new-wish-apart y x n a (sym e) (sym f))
       go (one-new m n a) = a
 
   keeps-login-taken : (x y : Wish) → Memᴰ x t.wishes → Memᴰ y t.wishes → x.stage ≡ AskingHouse → y.stage ≡ LoggingIn
@@ -304,16 +304,16 @@ module _ {r : Rules} {s t : State} (i : Inv r s) (c : Change r s t) where
       from-x : Memᴰ y s.wishes → WishFrom s t x → is_in y.number t.taken ≡ true
       from-x l (new_line_lem d) = absurd (let p = wish-id y l in omega arith)
       from-x l (went_on z m p q d u v) =
-          subst (λ (w : Wish). is_in w.number t.taken ≡ true) (i.one-wish z y m l (p ∙ sym b) (sym d ∙ f)) v
+          subst (λ (w : Wish). is_in w.number t.taken ≡ true) (i.one_wish z y m l (p ∙ sym b) (sym d ∙ f)) v
 
       from-y : Memᴰ x s.wishes → WishFrom s t y → is_in y.number t.taken ≡ true
       from-y l (new_line_lem d) = absurd (let p = wish-id x l in omega arith)
       from-y l (went_on z m p q d u v) = absurd (asking-is-not-login (a ∙ sym q))
 
       go : Two (NewWish r s t) s.wishes x y → is_in y.number t.taken ≡ true
-      go (both-old l m) = c.grows.taken y.number (i.login-taken x y l m a b f)
-      go (first-new n m) = from-x m n.from
-      go (second-new l n) = from-y l n.from
+      go (both-old l m) = c.grows.taken y.number (i.login_taken x y l m a b f)
+      go (first_new n m) = from-x m n.from
+      go (second_new l n) = from-y l n.from
       go (one-new m n e) = absurd (asking-is-not-login (ap (λ (w : Wish). w.stage) e))
 
   -- of a line whose asking for the house is taken just now, every wish is taken
@@ -322,8 +322,8 @@ module _ {r : Rules} {s t : State} (i : Inv r s) (c : Change r s t) where
   taken-with y x h k a f v = go x.stage refl
     where
       go : (g : Stage) → x.stage ≡ g → is_in x.number t.taken ≡ true
-      go LoggingIn e = c.grows.taken x.number (i.login-taken y x h k a e f)
-      go AskingHouse e = subst (λ (w : Wish). is_in w.number t.taken ≡ true) (i.one-wish y x h k (a ∙ sym e) f) v
+      go LoggingIn e = c.grows.taken x.number (i.login_taken y x h k a e f)
+      go AskingHouse e = subst (λ (w : Wish). is_in w.number t.taken ≡ true) (i.one_wish y x h k (a ∙ sym e) f) v
 
   keeps-wish-taken : (q : Asked) (x : Wish) → Memᴰ q t.asked → Memᴰ x t.wishes → (q.service ≡ r.house → ⊥)
       → q.line.id ≡ x.line.id → is_in x.number t.taken ≡ true
@@ -336,10 +336,10 @@ module _ {r : Rules} {s t : State} (i : Inv r s) (c : Change r s t) where
 
       from-x : Memᴰ q s.asked → WishFrom s t x → is_in x.number t.taken ≡ true
       from-x m (new_line_lem d) = absurd (let l = asked-id q m in omega arith)
-      from-x m (went_on y l a b d u v) = absurd (clash (i.wish-taken q y m l w (f ∙ d)) u)
+      from-x m (went_on y l a b d u v) = absurd (clash (i.wish_taken q y m l w (f ∙ d)) u)
 
       go : Memᴰ q s.asked ⊎ NewAsked r s t q → Memᴰ x s.wishes ⊎ NewWish r s t x → is_in x.number t.taken ≡ true
-      go (inl a) (inl b) = c.grows.taken x.number (i.wish-taken q x a b w f)
+      go (inl a) (inl b) = c.grows.taken x.number (i.wish_taken q x a b w f)
       go (inl a) (inr n) = from-x a n.from
       go (inr n) p = from-q n.from
 
@@ -350,26 +350,26 @@ module _ {r : Rules} {s t : State} (i : Inv r s) (c : Change r s t) where
       go : AskedFrom r s t q → ⊥
       go (for-house e) = w e
       go (new_line_lem d old) = let l = asked-id p h in omega arith
-      go (went_on y l a d u z old) = clash (i.wish-taken p y h l v (sym f ∙ d)) u
+      go (went_on y l a d u z old) = clash (i.wish_taken p y h l v (sym f ∙ d)) u
 
   keeps-one-of-line : (p q : Asked) → Memᴰ p t.asked → Memᴰ q t.asked → (p.service ≡ r.house → ⊥) → (q.service ≡ r.house → ⊥)
       → p.line.id ≡ q.line.id → p ≡ q
   keeps-one-of-line p q h k v w f = go (grown-two c.asked p q h k)
     where
       go : Two (NewAsked r s t) s.asked p q → p ≡ q
-      go (both-old a b) = i.one-of-line p q a b v w f
-      go (first-new n b) = absurd (new-asking-apart p q n b v w f)
-      go (second-new a n) = absurd (new-asking-apart q p n a w v (sym f))
+      go (both-old a b) = i.one_of_line p q a b v w f
+      go (first_new n b) = absurd (new-asking-apart p q n b v w f)
+      go (second_new a n) = absurd (new-asking-apart q p n a w v (sym f))
       go (one-new m n a) = a
 
   keeps-upon-after : (m : Key) (x : Wish) → Memᴰ m t.made → Memᴰ x t.wishes → m.upon ≡ even x.number → x.since ≤ m.at
   keeps-upon-after m x h k e = go (grown-cases c.made m h) (grown-cases c.wishes x k)
     where
       go : Memᴰ m s.made ⊎ NewKey r s t m → Memᴰ x s.wishes ⊎ NewWish r s t x → x.since ≤ m.at
-      go (inl a) (inl b) = i.upon-after m x a b e
+      go (inl a) (inl b) = i.upon_after m x a b e
       go (inl a) (inr n) =
           absurd (let l = known-low i x.number (x.number * 2) refl (subst (Known r s) e (i.made m a).upon) in let f = n.fresh in omega arith)
-      go (inr n) p = let l = (i.wishes x (n.no-wish x k)).past in let f = n.at-now in omega arith
+      go (inr n) p = let l = (i.wishes x (n.no_wish x k)).past in let f = n.at_now in omega arith
 
   keeps-closings : (o : Closing) (m : Key) → Memᴰ o t.closed → Memᴰ m t.made → m.who ≡ o.who → m.at ≤ o.at
   keeps-closings o m h k e = go (c.closed o h) (grown-cases c.made m k)
@@ -380,7 +380,7 @@ module _ {r : Rules} {s t : State} (i : Inv r s) (c : Change r s t) where
       go (inr a) (inl b) = let l = (i.made m b).past in omega arith
 
   keeps-once : EachOnce r t.done
-  keeps-once = go c.done i.each-once
+  keeps-once = go c.done i.each_once
     where
       go : {ds : List Done} → Grown (NewDone r s t) s.done ds → EachOnce r s.done → EachOnce r ds
       go same o = o
@@ -397,16 +397,16 @@ module _ {r : Rules} {s t : State} (i : Inv r s) (c : Change r s t) where
         asked = keeps-asked;
         done = keeps-done;
         one_key = unique-grown (λ (m : Key). m.key) s.next (λ m h. (i.made m h).low) (λ m n. n.fresh) c.made i.one_key;
-        one-asking = unique-grown (λ (q : Asked). q.number) s.next (λ q h. (i.asked q h).low) (λ q n. n.fresh) c.asked i.one-asking;
+        one_asking = unique-grown (λ (q : Asked). q.number) s.next (λ q h. (i.asked q h).low) (λ q n. n.fresh) c.asked i.one_asking;
         one_number = unique-grown (λ (x : Wish). x.number) s.next (λ x h. (i.wishes x h).low) (λ x n. n.fresh) c.wishes i.one_number;
-        key-no-wish = keeps-no-wish;
-        key-no-asking = keeps-no-asking;
-        one-wish = keeps-one-wish;
-        login-taken = keeps-login-taken;
-        wish-taken = keeps-wish-taken;
-        one-of-line = keeps-one-of-line;
-        upon-after = keeps-upon-after;
+        key_no_wish = keeps-no-wish;
+        key_no_asking = keeps-no-asking;
+        one_wish = keeps-one-wish;
+        login_taken = keeps-login-taken;
+        wish_taken = keeps-wish-taken;
+        one_of_line = keeps-one-of-line;
+        upon_after = keeps-upon-after;
         closings = keeps-closings;
-        each-once = keeps-once;
-        taken-low = c.taken;
+        each_once = keeps-once;
+        taken_low = c.taken;
       }

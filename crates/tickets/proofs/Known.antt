@@ -30,7 +30,7 @@ pub data Known (r : Rules) (s : State) : Term → Type 0 where
 
 -- a later state has all that an earlier one has
 pub record Grows (s t : State) : Type 0 where
-  pub now-le : s.now ≤ t.now
+  pub now_le : s.now ≤ t.now
   pub next_le : s.next ≤ t.next
   pub thefts : Sub s.stolen t.stolen
   pub taken : Sub s.taken t.taken

@@ -8,11 +8,11 @@ use native.Mathlib.Omega.{arith}
 use Rattle.tickets.specs.Term.{Num, Gets, even}
 use Rattle.tickets.specs.State.{Rules, Wish, Key, Asked, Done, Closing, State, Safe, is_in, any_in, relies}
 use Rattle.tickets.specs.Event.{Body, ticket, receipt}
-use Rattle.tickets.specs.Promise.{Answers, Origin, by-reader, origin_line, MadeUpon, MadeFor, CameBy, Whole, Main}
+use Rattle.tickets.specs.Promise.{Answers, Origin, by_reader, origin_line, MadeUpon, MadeFor, CameBy, Whole, Main}
 use Rattle.tickets.proofs.Bools.{clash, unsafe-wider, safe-back, even-injective}
 use Rattle.tickets.proofs.Known.{Known}
 use Rattle.tickets.proofs.Inv.{HoldsKey, key-given, key-forged, Ticketed, ticket-made, ticket-forged, NotBefore, EachOnce, Inv, known-unsafe, own-stolen, gets-known, receipt-cases}
-use Rattle.tickets.proofs.Hearing.{ticket-heard}
+use Rattle.tickets.proofs.Hearing.{ticket_heard}
 use Rattle.tickets.proofs.AskingMade.{asking-was-made}
 use Rattle.tickets.proofs.Reached.{reached}
 use Rattle.tickets.proofs.SixEvents.{served}
@@ -26,28 +26,28 @@ module _ {r : Rules} {s : State} (i : Inv r s) where
   asked-for : (d : Done) → Memᴰ d s.done → (d.service ≡ r.house → ⊥) → Safe r d.stolen d.who d.service → Origin r s d
   asked-for d h v w =
       let a = (i.done d h).answers w in
-      by-reader a.0 a.1 ((i.asked a.0 a.1.known).as_wanted (λ e. v (sym a.1.of-service ∙ e)))
+      by_reader a.0 a.1 ((i.asked a.0 a.1.known).as_wanted (λ e. v (sym a.1.of_service ∙ e)))
 
   granted : (d : Done) → Memᴰ d s.done → d.service ≡ r.house → Safe r d.stolen d.who d.service
       → (q : Asked) × Answers r s d q × (Num q.line.service ≡ d.what)
   granted d h v w =
       let a = (i.done d h).answers w in
-      let e = (i.asked a.0 a.1.known).house-what (a.1.of-service ∙ v) in
+      let e = (i.asked a.0 a.1.known).house_what (a.1.of_service ∙ v) in
       (a.0, a.1, sym e ∙ a.1.in_words)
 
-  once-by-number : (ds es : List Done) (d e : Done) → s.done ≡ ds ++ (d ∷ es) → Memᴰ e es → Safe r d.stolen d.who d.service
+  once_by_number : (ds es : List Done) (d e : Done) → s.done ≡ ds ++ (d ∷ es) → Memᴰ e es → Safe r d.stolen d.who d.service
       → e.service ≡ d.service → e.key ≡ d.key → e.number ≡ d.number → ⊥
-  once-by-number ds es d e split h = at_place r ds es d (subst (EachOnce r) split i.each-once) e h
+  once_by_number ds es d e split h = at_place r ds es d (subst (EachOnce r) split i.each_once) e h
 
   once : (ds es : List Done) (d e : Done) → s.done ≡ ds ++ (d ∷ es) → Memᴰ e es → Safe r d.stolen d.who d.service
       → (o : Origin r s d) (p : Origin r s e) → (origin_line o).id ≡ (origin_line p).id → ⊥
-  once ds es d e split h safe (by-reader q a w) (by-reader p b z) same =
+  once ds es d e split h safe (by_reader q a w) (by_reader p b z) same =
       let service : (x : Asked) → Memᴰ x s.asked → x.line.service ≡ x.service → x.service ≡ r.house → ⊥ =
-      λ x k f g. (i.lines x.line (i.asked x k).line).a-service (f ∙ g)
+      λ x k f g. (i.lines x.line (i.asked x k).line).a_service (f ∙ g)
       in
-      let one : p ≡ q = i.one-of-line p q b.known a.known (service p b.known z.of-service) (service q a.known w.of-service) (sym same) in
-      once-by-number ds es d e split h safe
-      (sym b.of-service ∙ ap (λ (x : Asked). x.service) one ∙ a.of-service)
+      let one : p ≡ q = i.one_of_line p q b.known a.known (service p b.known z.of_service) (service q a.known w.of_service) (sym same) in
+      once_by_number ds es d e split h safe
+      (sym b.of_service ∙ ap (λ (x : Asked). x.service) one ∙ a.of_service)
       (sym b.same_key ∙ ap (λ (x : Asked). x.key) one ∙ a.same_key)
       (sym b.same_number ∙ ap (λ (x : Asked). even x.number) one ∙ a.same_number)
 
@@ -57,7 +57,7 @@ module _ {r : Rules} {s : State} (i : Inv r s) where
     where
       go : Ticketed r s d → d.at ≤ c.at + r.life
       go (ticket-made m g u) =
-          let l = i.closings c m h g.known (g.for-reader ∙ who) in
+          let l = i.closings c m h g.known (g.for_reader ∙ who) in
           let e = (i.made m g.known).lives in
           omega arith
       go (ticket-forged x st) = absurd (clash st free)
@@ -70,7 +70,7 @@ module _ {r : Rules} {s : State} (i : Inv r s) where
       unknown m g k =
           let u = known-unsafe i m g.known (subst (Known r s) g.same_key k) in
           clash
-          (subst (λ (x : ℕ). any_in (relies r x q.service) s.stolen ≡ true) g.for-reader
+          (subst (λ (x : ℕ). any_in (relies r x q.service) s.stolen ≡ true) g.for_reader
           (subst (λ (x : ℕ). any_in (relies r m.who x) s.stolen ≡ true) g.for-service u))
           safe
 
@@ -79,13 +79,13 @@ module _ {r : Rules} {s : State} (i : Inv r s) where
       deed m g d k e n (ticket-forged x st) = absurd (unknown m g (subst (Known r s) (sym e) x))
       deed m g d k e n (ticket-made p o u) =
           let one : p ≡ m = i.one_key p m o.known g.known (even-injective p.key m.key (sym o.same_key ∙ sym e ∙ g.same_key)) in
-          let who : d.who ≡ q.line.reader = sym o.for-reader ∙ ap (λ (x : Key). x.who) one ∙ g.for-reader in
+          let who : d.who ≡ q.line.reader = sym o.for_reader ∙ ap (λ (x : Key). x.who) one ∙ g.for_reader in
           let service : d.service ≡ q.service = sym o.for-service ∙ ap (λ (x : Key). x.service) one ∙ g.for-service in
           let mine : Safe r s.stolen d.who d.service =
           subst (λ (x : ℕ). Safe r s.stolen x d.service) (sym who) (subst (λ (x : ℕ). Safe r s.stolen q.line.reader x) (sym service) safe)
           in
           let a = (i.done d k).answers (safe-back r d.stolen s.stolen d.who d.service (i.done d k).thefts mine) in
-          let same : a.0 ≡ q = i.one-asking a.0 q a.1.known h (even-injective a.0.number q.number (a.1.same_number ∙ sym n)) in
+          let same : a.0 ≡ q = i.one_asking a.0 q a.1.known h (even-injective a.0.number q.number (a.1.same_number ∙ sym n)) in
           subst (Answers r s d) same a.1
 
       found : (m : Key) → MadeUpon s q.line.reader q.service q.key q.upon q.since m
@@ -100,7 +100,7 @@ module _ {r : Rules} {s : State} (i : Inv r s) where
       held (key-forged k u) = absurd (clash (unsafe-wider r s.stolen q.line.reader q.service u) safe)
 
   ticket-was-made : (b : Body) → is_in (r.key_of b.service) s.stolen ≡ false → Gets s.air (ticket r b) → (m : Key) × MadeFor s b m
-  ticket-was-made b free h = go (ticket-heard i b (gets-known i h))
+  ticket-was-made b free h = go (ticket_heard i b (gets-known i h))
     where
       go : ((m : Key) × MadeFor s b m) ⊎ (Known r s b.key × (is_in (r.key_of b.service) s.stolen ≡ true)) → (m : Key) × MadeFor s b m
       go (inl m) = m
@@ -116,11 +116,11 @@ module _ {r : Rules} {s : State} (i : Inv r s) where
         m.0,
         record {
           known = m.1.known;
-          for-reader = m.1.for-reader;
+          for_reader = m.1.for_reader;
           for-service = m.1.for-service;
           same_key = m.1.same_key;
           same_number = m.1.same_number ∙ ap even (sym x.1.same_number);
-          not-before = let e = x.1.same-since in let l = m.1.not-before in omega arith;
+          not_before = let e = x.1.same_since in let l = m.1.not_before in omega arith;
         },
       )
 
@@ -129,16 +129,16 @@ module _ {r : Rules} {s : State} (i : Inv r s) where
       record {
         asked-for = asked-for;
         granted = granted;
-        house-gave = λ d h. (i.done d h).gave;
-        ticket-asked = λ m h. (i.made m h).wanted;
+        house_gave = λ d h. (i.done d h).gave;
+        ticket_asked = λ m h. (i.made m h).wanted;
         once = once;
-        once-by-number = once-by-number;
+        once_by_number = once_by_number;
         kept = λ m h w k. clash (known-unsafe i m h (gets-known i k)) w;
-        own-kept = λ a w k. clash (own-stolen i a (gets-known i k)) w;
+        own_kept = λ a w k. clash (own-stolen i a (gets-known i k)) w;
         ticket-made = ticket-was-made;
         asking-made = asking-was-made i;
         over = over;
-        no-ticket = i.closings;
+        no_ticket = i.closings;
         logged-in = λ m h. (i.made m h).began;
         fresh = fresh;
         heard = heard;

@@ -42,18 +42,18 @@ inv-start r =
       asked = λ q h. absurd (Memᴰ.not-nil h);
       done = λ d h. absurd (Memᴰ.not-nil h);
       one_key = λ m n h. absurd (Memᴰ.not-nil h);
-      one-asking = λ p q h. absurd (Memᴰ.not-nil h);
+      one_asking = λ p q h. absurd (Memᴰ.not-nil h);
       one_number = λ x y h. absurd (Memᴰ.not-nil h);
-      key-no-wish = λ m x h. absurd (Memᴰ.not-nil h);
-      key-no-asking = λ m q h. absurd (Memᴰ.not-nil h);
-      one-wish = λ x y h. absurd (Memᴰ.not-nil h);
-      login-taken = λ x y h. absurd (Memᴰ.not-nil h);
-      wish-taken = λ q x h. absurd (Memᴰ.not-nil h);
-      one-of-line = λ p q h. absurd (Memᴰ.not-nil h);
-      upon-after = λ m x h. absurd (Memᴰ.not-nil h);
+      key_no_wish = λ m x h. absurd (Memᴰ.not-nil h);
+      key_no_asking = λ m q h. absurd (Memᴰ.not-nil h);
+      one_wish = λ x y h. absurd (Memᴰ.not-nil h);
+      login_taken = λ x y h. absurd (Memᴰ.not-nil h);
+      wish_taken = λ q x h. absurd (Memᴰ.not-nil h);
+      one_of_line = λ p q h. absurd (Memᴰ.not-nil h);
+      upon_after = λ m x h. absurd (Memᴰ.not-nil h);
       closings = λ c m h. absurd (Memᴰ.not-nil h);
-      each-once = tt;
-      taken-low = λ n h. absurd (clash {b = false} h refl);
+      each_once = tt;
+      taken_low = λ n h. absurd (clash {b = false} h refl);
     }
 
 -- the invariant holds of every state that can be reached

@@ -22,7 +22,7 @@ module _ {r : Rules} {s : State} (i : Inv r s) where
   not_taken n h = go (either (is_in n s.taken))
     where
       go : (is_in n s.taken ≡ true) ⊎ (is_in n s.taken ≡ false) → is_in n s.taken ≡ false
-      go (inl e) = absurd (let l = i.taken-low n e in omega arith)
+      go (inl e) = absurd (let l = i.taken_low n e in omega arith)
       go (inr e) = e
 
   not-taken-two : (n m : ℕ) → s.next ≤ n → (n ≡ m → ⊥) → is_in n (m ∷ s.taken) ≡ false
@@ -73,10 +73,10 @@ module _ {r : Rules} {s : State} (i : Inv r s) where
     s6 = after r (Event.does service-ticket (even (s.next + 1 + 1 + 1 + 1)) w s.now) s5
 
     may1 : Wants r s v w
-    may1 = record { a-service = service; writable = writable }
+    may1 = record { a_service = service; writable = writable }
 
     may2 : HearsLogin r s1 a (even s.next) s.now
-    may2 = record { heard = has (Memᴰ.head refl); in-time = record { not-ahead = omega arith; not-old = omega arith }; is_open = is_open }
+    may2 = record { heard = has (Memᴰ.head refl); in_time = record { not_ahead = omega arith; not_old = omega arith }; is_open = is_open }
 
     may3 : Takes s2 login LoggingIn (Own a) r.house (even (s.next + 1)) (s.now + r.life)
     may3 =
@@ -91,13 +91,13 @@ module _ {r : Rules} {s : State} (i : Inv r s) where
     may4 =
         record {
           for-house = refl;
-          a-service = service;
+          a_service = service;
           hears =
               record {
-                ticket-heard = has (Memᴰ.tail (Memᴰ.head refl));
-                asking-heard = has (Memᴰ.head refl);
-                in-time = record { not-ahead = omega arith; not-old = omega arith };
-                is-good = omega arith;
+                ticket_heard = has (Memᴰ.tail (Memᴰ.head refl));
+                asking_heard = has (Memᴰ.head refl);
+                in_time = record { not_ahead = omega arith; not_old = omega arith };
+                is_good = omega arith;
                 is-new = λ d. not_done (s.next + 1 + 1) (omega arith) d.deed d.known d.same_number;
               };
           is_open = is_open;
@@ -115,13 +115,13 @@ module _ {r : Rules} {s : State} (i : Inv r s) where
     may6 : Does r s5 service-ticket (even (s.next + 1 + 1 + 1 + 1)) w s.now
     may6 =
         record {
-          a-service = service;
+          a_service = service;
           hears =
               record {
-                ticket-heard = has (Memᴰ.tail (Memᴰ.head refl));
-                asking-heard = has (Memᴰ.head refl);
-                in-time = record { not-ahead = omega arith; not-old = omega arith };
-                is-good = omega arith;
+                ticket_heard = has (Memᴰ.tail (Memᴰ.head refl));
+                asking_heard = has (Memᴰ.head refl);
+                in_time = record { not_ahead = omega arith; not_old = omega arith };
+                is_good = omega arith;
                 is-new = λ d. new d (Memᴰ.cases_cons d.known);
               };
         }
@@ -141,28 +141,28 @@ module _ {r : Rules} {s : State} (i : Inv r s) where
             (Event.serves house-ticket (even (s.next + 1 + 1)) v s.now) may4)
             (Event.asks asking (even (s.next + 1 + 1 + 1)) (s.now + r.life)) may5)
             (Event.does service-ticket (even (s.next + 1 + 1 + 1 + 1)) w s.now) may6;
-        same-tick = refl;
-        nothing-stolen = refl;
-        nothing-closed = refl;
+        same_tick = refl;
+        nothing_stolen = refl;
+        nothing_closed = refl;
         one_line = refl;
         deed = new_done s5 service-ticket (even (s.next + 1 + 1 + 1 + 1)) w;
-        ticket-given = new_done s3 house-ticket (even (s.next + 1 + 1)) (Num v);
-        two-deeds = refl;
-        as-reader = refl;
-        by-service = refl;
+        ticket_given = new_done s3 house-ticket (even (s.next + 1 + 1)) (Num v);
+        two_deeds = refl;
+        as_reader = refl;
+        by_service = refl;
         in_words = refl;
         at_once = refl;
-        the-asking = Event.new_asked s4 (new_line s a v w) v (even (s.next + 1 + 1 + 1)) w s.now (s.next + 1 + 1) s.now;
+        the_asking = Event.new_asked s4 (new_line s a v w) v (even (s.next + 1 + 1 + 1)) w s.now (s.next + 1 + 1) s.now;
         accounts =
             record {
               known = Memᴰ.head refl;
-              by-reader = refl;
-              of-service = refl;
+              by_reader = refl;
+              of_service = refl;
               same_key = refl;
               same_number = refl;
               in_words = refl;
-              in-time = record { not-ahead = omega arith; not-old = omega arith };
-              from-line = Memᴰ.head refl;
+              in_time = record { not_ahead = omega arith; not_old = omega arith };
+              from_line = Memᴰ.head refl;
             };
         of-line = refl;
         told = has (Memᴰ.head refl);

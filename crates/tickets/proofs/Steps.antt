@@ -30,7 +30,7 @@ grows : (s t : State) → s.now ≤ t.now → s.next ≤ t.next → Sub s.stolen
     → Tail s.wishes t.wishes → Tail s.made t.made → Tail s.asked t.asked → Tail s.done t.done → Grows s t
 grows s t a b c d l x m q e =
     record {
-      now-le = a;
+      now_le = a;
       next_le = b;
       thefts = c;
       taken = d;
@@ -79,7 +79,7 @@ open-no-closing a (o ∷ cs) h c m e = go (open-no-closing a cs (or-false-right 
 module _ {r : Rules} {s : State} (i : Inv r s) where
   -- what was taken stays below the number that is drawn next
   taken-below : (t : State) → s.next ≤ t.next → (n : ℕ) → is_in n s.taken ≡ true → n < t.next
-  taken-below t h n k = let l = i.taken-low n k in omega arith
+  taken-below t h n k = let l = i.taken_low n k in omega arith
 
   taken-one : (t : State) (x : Wish) → Memᴰ x s.wishes → s.next ≤ t.next → (n : ℕ) → is_in n (x.number ∷ s.taken) ≡ true → n < t.next
   taken-one t x m h n k = go (is_in-cases n x.number s.taken k)
@@ -142,7 +142,7 @@ module _ {r : Rules} {s : State} (i : Inv r s) where
             said-one r s t (login_of (new_wish s (new_line s a v w) LoggingIn (Own a)))
             (Known.a-login (new_wish s (new_line s a v w) LoggingIn (Own a)) _ _ (Memᴰ.head refl) refl refl refl);
         closed = λ c h. inl h;
-        lines = more (new_line s a v w) (record { ok = record { low = omega arith; a-service = g.a-service; writable = known-grows gr (gets-known i g.writable) } });
+        lines = more (new_line s a v w) (record { ok = record { low = omega arith; a_service = g.a_service; writable = known-grows gr (gets-known i g.writable) } });
         wishes =
             more (new_wish s (new_line s a v w) LoggingIn (Own a))
             (record {
@@ -151,7 +151,7 @@ module _ {r : Rules} {s : State} (i : Inv r s) where
                     low = omega arith;
                     past = omega arith;
                     line = Memᴰ.head refl;
-                    holds = λ e. absurd (no-asking e);
+                    holds = λ e. absurd (no_asking e);
                   };
               fresh = refl;
               from = Keep.WishFrom.new_line_lem refl;
@@ -170,8 +170,8 @@ module _ {r : Rules} {s : State} (i : Inv r s) where
           grows s t (omega arith) (omega arith) (sub_refl s.stolen) (sub_refl s.taken) (more (new_line s a v w) tt)
           (more (new_wish s (new_line s a v w) LoggingIn (Own a)) tt) same same same
 
-      no-asking : LoggingIn ≡ AskingHouse → ⊥
-      no-asking e = let z : ◌≡◌ {A = ℕ} 0 1 = cc in omega arith
+      no_asking : LoggingIn ≡ AskingHouse → ⊥
+      no_asking e = let z : ◌≡◌ {A = ℕ} 0 1 = cc in omega arith
 
   pub step-grants : (a : ℕ) (n : Term) (at : ℕ) → HearsLogin r s a n at → Change r s (after r (Event.grants a n at) s)
   step-grants a n at h =
@@ -198,10 +198,10 @@ module _ {r : Rules} {s : State} (i : Inv r s) where
                     wanted = λ w. absurd (w refl);
                   };
               fresh = refl;
-              at-now = refl;
+              at_now = refl;
               is_open = open-no-closing a s.closed h.is_open;
-              no-wish = λ x k. k;
-              no-asking = λ q k. k;
+              no_wish = λ x k. k;
+              no_asking = λ q k. k;
             });
         asked = same;
         done = same;
@@ -238,11 +238,11 @@ module _ {r : Rules} {s : State} (i : Inv r s) where
             p.0,
             record {
               known = p.1;
-              at-login = p.2;
-              by-reader = sym reader;
+              at_login = p.2;
+              by_reader = sym reader;
               same_number = cc;
-              in-time = subst (λ (x : ℕ). Lately 0 r.lag s.now x) f h.in-time;
-              from-line = (i.wishes p.0 p.1).line;
+              in_time = subst (λ (x : ℕ). Lately 0 r.lag s.now x) f h.in_time;
+              from_line = (i.wishes p.0 p.1).line;
             },
           )
 
@@ -250,14 +250,14 @@ module _ {r : Rules} {s : State} (i : Inv r s) where
   asked-ok : (t : State) → Grows s t → (q : Asked) → q.number < t.next → q.stolen ≡ s.stolen → Known r s q.what → Memᴰ q.line t.lines
       → HoldsKey r s q.line.reader q.key (MadeUpon s q.line.reader q.service q.key q.upon q.since)
       → (q.service ≡ r.house → q.what ≡ Num q.line.service) → ((q.service ≡ r.house → ⊥) → AsWanted q) → (x : Wish) × CameBy r t q x → AskedOk r t q
-  asked-ok t g q low st what line holds house-what as_wanted came =
+  asked-ok t g q low st what line holds house_what as_wanted came =
       record {
         low = low;
         thefts = λ a h. g.thefts a (subst (λ (x : List ℕ). is_in a x ≡ true) st h);
         what = known-grows g what;
         line = line;
         holds = later holds;
-        house-what = house-what;
+        house_what = house_what;
         as_wanted = as_wanted;
         came = came;
         fresh = λ w. fresh (subst (λ (x : List ℕ). Safe r x q.line.reader r.house) st w) holds;
@@ -277,7 +277,7 @@ module _ {r : Rules} {s : State} (i : Inv r s) where
   -- an asking for the house under a key that its reader holds is under way
   wish-holds : (t : State) → Grows s t → (a : ℕ) (k : Term) (n f : ℕ) → HoldsKey r s a k (MadeUpon s a r.house k n f) → HoldsKey r t a k (GivenKey t a r.house k)
   wish-holds t g a k n f (key-given m h) =
-      key-given m (record { known = g.made m h.known; for-reader = h.for-reader; for-service = h.for-service; same_key = h.same_key })
+      key-given m (record { known = g.made m h.known; for_reader = h.for_reader; for-service = h.for-service; same_key = h.same_key })
   wish-holds t g a k n f (key-forged x u) = key-forged (known-grows g x) (Keep.unsafe-grows r g a r.house u)
 
   pub step-wants : (x : Wish) (k : Term) (u : ℕ) → Takes s x LoggingIn (Own x.line.reader) r.house k u → Change r s (after r (Event.wants x k u) s)
@@ -336,13 +336,13 @@ module _ {r : Rules} {s : State} (i : Inv r s) where
         x,
         record {
           known = g.wishes x h.known;
-          by-reader = refl;
+          by_reader = refl;
           same_number = refl;
-          same-since = refl;
+          same_since = refl;
           login = λ _. h.at_stage;
           asking = λ w. absurd (w refl);
           for-service = λ w. absurd (w refl);
-          from-line = line;
+          from_line = line;
         },
       )
 
@@ -352,7 +352,7 @@ module _ {r : Rules} {s : State} (i : Inv r s) where
         grows = g;
         air = said-one r s t (asking_of q) (Known.an-asking q _ _ (Memᴰ.head refl) refl refl);
         closed = λ c h. inl h;
-        lines = more l (record { ok = record { low = omega arith; a-service = z.a-service; writable = known-grows g (gets-known i z.writable) } });
+        lines = more l (record { ok = record { low = omega arith; a_service = z.a_service; writable = known-grows g (gets-known i z.writable) } });
         wishes =
             more y
             (record {
@@ -395,7 +395,7 @@ module _ {r : Rules} {s : State} (i : Inv r s) where
 
       holds : HoldsKey r s p.line.reader p.key (MadeUpon s p.line.reader r.house p.key p.upon p.since)
       holds =
-          subst (λ (v : ℕ). HoldsKey r s p.line.reader p.key (MadeUpon s p.line.reader v p.key p.upon p.since)) h.the-house
+          subst (λ (v : ℕ). HoldsKey r s p.line.reader p.key (MadeUpon s p.line.reader v p.key p.upon p.since)) h.the_house
           (i.asked p h.known).holds
 
       came : (w : Wish) × CameBy r t q w
@@ -404,13 +404,13 @@ module _ {r : Rules} {s : State} (i : Inv r s) where
             b.0,
             record {
               known = g.wishes b.0 b.1.known;
-              by-reader = b.1.by-reader;
+              by_reader = b.1.by_reader;
               same_number = b.1.same_number;
-              same-since = b.1.same-since;
-              login = λ _. b.1.login h.the-house;
+              same_since = b.1.same_since;
+              login = λ _. b.1.login h.the_house;
               asking = λ w. absurd (w refl);
               for-service = λ w. absurd (w refl);
-              from-line = g.lines b.0.line b.1.from-line;
+              from_line = g.lines b.0.line b.1.from_line;
             },
           )
 
@@ -420,15 +420,15 @@ module _ {r : Rules} {s : State} (i : Inv r s) where
         grows = g;
         air = said-one r s t (asking_of q) (Known.an-asking q _ _ (Memᴰ.head refl) refl refl);
         closed = λ c h. inl h;
-        lines = more l (record { ok = record { low = omega arith; a-service = h.a-service; writable = known-grows g (gets-known i z) } });
+        lines = more l (record { ok = record { low = omega arith; a_service = h.a_service; writable = known-grows g (gets-known i z) } });
         wishes = same;
         made = same;
         asked =
             more q
             (record {
               ok =
-                  asked-ok t g q (omega arith) refl (gets-known i z) (Memᴰ.head refl) (i.asked p h.known).holds (λ e. absurd (h.a-service e))
-                  (λ _. record { of-service = refl; in_words = refl; at_tick = refl }) came;
+                  asked-ok t g q (omega arith) refl (gets-known i z) (Memᴰ.head refl) (i.asked p h.known).holds (λ e. absurd (h.a_service e))
+                  (λ _. record { of_service = refl; in_words = refl; at_tick = refl }) came;
               fresh = refl;
               from = Keep.AskedFrom.new_line_lem refl (λ x k. k);
             });
@@ -454,13 +454,13 @@ module _ {r : Rules} {s : State} (i : Inv r s) where
             b.0,
             record {
               known = g.wishes b.0 b.1.known;
-              by-reader = b.1.by-reader;
+              by_reader = b.1.by_reader;
               same_number = b.1.same_number;
-              same-since = b.1.same-since;
+              same_since = b.1.same_since;
               login = b.1.login;
               asking = b.1.asking;
               for-service = b.1.for-service;
-              from-line = g.lines b.0.line b.1.from-line;
+              from_line = g.lines b.0.line b.1.from_line;
             },
           )
 
@@ -478,7 +478,7 @@ module _ {r : Rules} {s : State} (i : Inv r s) where
             (record {
               ok =
                   asked-ok t g q (omega arith) refl what line holds
-                  (λ e. absurd ((i.lines x.line line).a-service e)) (λ _. record { of-service = refl; in_words = refl; at_tick = refl }) came;
+                  (λ e. absurd ((i.lines x.line line).a_service e)) (λ _. record { of_service = refl; in_words = refl; at_tick = refl }) came;
               fresh = refl;
               from = Keep.AskedFrom.went_on x h.known h.at_stage refl h.not_taken (is_in-here x.number s.taken) (λ x k. k);
             });
@@ -509,13 +509,13 @@ module _ {r : Rules} {s : State} (i : Inv r s) where
         x,
         record {
           known = g.wishes x h.known;
-          by-reader = refl;
+          by_reader = refl;
           same_number = refl;
-          same-since = refl;
-          login = λ e. absurd ((i.lines x.line line).a-service e);
+          same_since = refl;
+          login = λ e. absurd ((i.lines x.line line).a_service e);
           asking = λ _. h.at_stage;
           for-service = λ _. refl;
-          from-line = line;
+          from_line = line;
         },
       )
 
@@ -531,7 +531,7 @@ module _ {r : Rules} {s : State} (i : Inv r s) where
         asked = same;
         done =
             more (new_done s b n w)
-            (record { ok = done_ok i t g b n w at h.hears (λ e. absurd (h.a-service e)); once = λ e k safe. first-time i b n w at h.hears safe e k });
+            (record { ok = done_ok i t g b n w at h.hears (λ e. absurd (h.a_service e)); once = λ e k safe. first-time i b n w at h.hears safe e k });
         taken = taken-below t (omega arith);
       }
     where
@@ -560,16 +560,16 @@ module _ {r : Rules} {s : State} (i : Inv r s) where
                     past = omega arith;
                     lives = refl;
                     thefts = sub_refl s.stolen;
-                    upon = known-grows g (number-heard i b.key b.service n (Num v) at (gets-known i h.hears.asking-heard));
+                    upon = known-grows g (number-heard i b.key b.service n (Num v) at (gets-known i h.hears.asking_heard));
                     under = under (ticket-used i b n (Num v) at h.hears);
-                    began = λ e. absurd (h.a-service e);
+                    began = λ e. absurd (h.a_service e);
                     wanted = λ _ safe. wanted (asking-safe i b n (Num v) at h.hears (subst (λ (x : ℕ). Safe r s.stolen b.who x) (sym h.for-house) safe));
                   };
               fresh = refl;
-              at-now = refl;
+              at_now = refl;
               is_open = open-no-closing b.who s.closed h.is_open;
-              no-wish = λ x k. k;
-              no-asking = λ q k. k;
+              no_wish = λ x k. k;
+              no_asking = λ q k. k;
             });
         asked = same;
         done =
@@ -590,29 +590,29 @@ module _ {r : Rules} {s : State} (i : Inv r s) where
       gave : (k : Key) × GaveKey t (new_done s b n (Num v)) k
       gave = (
         m,
-        record { known = Memᴰ.head refl; for-reader = refl; for-service = refl; same_number = refl; same_key = refl; same-tick = refl },
+        record { known = Memᴰ.head refl; for_reader = refl; for-service = refl; same_number = refl; same_key = refl; same_tick = refl },
       )
 
       wanted : (q : Asked) × Sent s b n (Num v) at q → (q : Asked) × WantedBy r t m q
       wanted (q, f) =
-          let house : q.service ≡ r.house = f.of-service ∙ h.for-house in
-          let asked-words = (i.asked q f.known).house-what house in
+          let house : q.service ≡ r.house = f.of_service ∙ h.for-house in
+          let asked-words = (i.asked q f.known).house_what house in
           let heard-words = f.in_words in (
             q,
             record {
               known = f.known;
-              by-reader = f.by-reader;
-              of-house = house;
+              by_reader = f.by_reader;
+              of_house = house;
               for-service = cc;
               same_key = f.same_key;
               same_number = sym f.same_number;
-              in-time = subst (λ (x : ℕ). Lately 0 r.lag s.now x) (sym f.at_tick) h.hears.in-time;
-              from-line = (i.asked q f.known).line;
+              in_time = subst (λ (x : ℕ). Lately 0 r.lag s.now x) (sym f.at_tick) h.hears.in_time;
+              from_line = (i.asked q f.known).line;
             },
           )
 
       under : ((m : Key) × MadeFor s b m) ⊎ (Known r s b.key × (is_in (r.key_of b.service) s.stolen ≡ true)) → Under r t m
       under (inl (o, f)) =
-          by-session o (record { known = g.made o f.known; for-reader = f.for-reader; for-service = f.for-service ∙ h.for-house; same_key = f.same_key })
+          by-session o (record { known = g.made o f.known; for_reader = f.for_reader; for-service = f.for-service ∙ h.for-house; same_key = f.same_key })
       under (inr (k, st)) =
           by-forged (known-grows g k) (subst (λ (x : ℕ). is_in (r.key_of x) s.stolen ≡ true) h.for-house st)

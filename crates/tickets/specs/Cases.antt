@@ -55,9 +55,9 @@ Right r s b n t DoneAlready = DoneBefore r s b.service b.key n → ⊥
 
 -- ticket and asking open and are right but for one thing
 pub record WrongOnly (r : Rules) (s : State) (b : Body) (number what : Term) (at : ℕ) (why : Why) : Type 0 where
-  pub ticket-heard : Gets s.air (ticket r b)
-  pub asking-heard : Gets s.air (asking b.key b.service number what at)
-  pub else-right : (y : Why) → (y ≡ why → ⊥) → Right r s b number at y
+  pub ticket_heard : Gets s.air (ticket r b)
+  pub asking_heard : Gets s.air (asking b.key b.service number what at)
+  pub else_right : (y : Why) → (y ≡ why → ⊥) → Right r s b number at y
   pub wrong : Right r s b number at why → ⊥
 
 -- what is claimed of a state
@@ -257,8 +257,8 @@ row_c301 =
     }
 
 -- without the closing both do
-abbrev pub row_c-open : Row
-row_c-open =
+abbrev pub row_c_open : Row
+row_c_open =
     record {
       rules = plain;
       events = tries (waits 100 done200);
@@ -365,8 +365,8 @@ row_f =
     }
 
 -- where 8 has the key of 7, for 8 too: one theft is both's
-abbrev pub row_f-slip : Row
-row_f-slip =
+abbrev pub row_f_slip : Row
+row_f_slip =
     record {
       rules = slip;
       events = steals 7 ∷ done200;
@@ -402,7 +402,7 @@ row_g =
 
 abbrev pub table : List Row
 table =
-    row_a ∷ row_b201 ∷ row_b206 ∷ row_c301 ∷ row_c-open ∷ row_c1200 ∷ row_c1201 ∷ row_d plain ∷ row_d slip ∷ row_e ∷ row_f ∷ row_f-slip ∷ row_g ∷ []
+    row_a ∷ row_b201 ∷ row_b206 ∷ row_c301 ∷ row_c_open ∷ row_c1200 ∷ row_c1201 ∷ row_d plain ∷ row_d slip ∷ row_e ∷ row_f ∷ row_f_slip ∷ row_g ∷ []
 
 -- every row of the table holds
 abbrev pub WorkedCases : Type 0

@@ -3,7 +3,7 @@
 use Rattle.std.specs.Prelude.{◌≡◌, false, ℕ, ◌+◌}
 use mathlib.Core.List.{List, [], ◌∷◌, Memᴰ}
 use Rattle.tickets.specs.Term.{Term, Num, Own, Pair, Lock, Gets, even}
-use Rattle.tickets.specs.State.{Rules, Lately, Good, Remembered, early, keep, Line, Stage, LoggingIn, AskingHouse, Wish, Key, Asked, Done, State, is_in, is_closed, start, ticked, drew, said, with-stolen, with-closed, with-line, with-wish, with-taken, with-key, with-asked, with-done}
+use Rattle.tickets.specs.State.{Rules, Lately, Good, Remembered, early, keep, Line, Stage, LoggingIn, AskingHouse, Wish, Key, Asked, Done, State, is_in, is_closed, start, ticked, drew, said, with_stolen, with_closed, with_line, with_wish, with_taken, with-key, with_asked, with_done}
 
 -- what stands in a ticket: for which service, whose it is, the session key, until when it is good
 pub record Body : Type 0 where
@@ -102,36 +102,36 @@ gives r m s = said (ticket r (body_of m) ∷ letter_of m ∷ []) (drew (with-key
 
 -- a box draws a number for an asking, and sends it
 abbrev pub sends : Asked → State → State
-sends q s = said (asking_of q ∷ []) (drew (with-asked q s))
+sends q s = said (asking_of q ∷ []) (drew (with_asked q s))
 
 -- a box asks the house for the service of a line, and waits for the letter
 abbrev pub asks_house : Rules → Line → (key : Term) → (upon since : ℕ) → State → State
 asks_house r l k n f s =
     sends (new_asked s l r.house k (Num l.service) s.now n f)
-    (with-wish (new_wish s l AskingHouse k) s)
+    (with_wish (new_wish s l AskingHouse k) s)
 
 -- what an event leaves
 abbrev pub after : Rules → Event → State → State
 after r ticks s = ticked s
-after r (steals a) s = said (Own a ∷ []) (with-stolen a s)
-after r (closes a) s = with-closed (record { who = a; at = s.now }) s
+after r (steals a) s = said (Own a ∷ []) (with_stolen a s)
+after r (closes a) s = with_closed (record { who = a; at = s.now }) s
 after r (begins a v w) s =
     said (login_of (new_wish s (new_line s a v w) LoggingIn (Own a)) ∷ [])
-    (drew (with-wish (new_wish s (new_line s a v w) LoggingIn (Own a)) (with-line (new_line s a v w) s)))
+    (drew (with_wish (new_wish s (new_line s a v w) LoggingIn (Own a)) (with_line (new_line s a v w) s)))
 after r (grants a n t) s = gives r (new_key r s a r.house n (Own a)) s
-after r (wants x k u) s = with-taken x.number (asks_house r x.line k x.number x.since s)
+after r (wants x k u) s = with_taken x.number (asks_house r x.line k x.number x.since s)
 after r (wish q v w) s =
-    with-line (new_line s q.line.reader v w)
+    with_line (new_line s q.line.reader v w)
     (asks_house r (new_line s q.line.reader v w) q.key q.upon q.since s)
 after r (again q w) s =
-    with-line (new_line s q.line.reader q.service w)
+    with_line (new_line s q.line.reader q.service w)
     (sends (new_asked s (new_line s q.line.reader q.service w) q.service q.key w s.now q.upon q.since) s)
 after r (serves b n v t) s =
-    with-done (new_done s b n (Num v)) (gives r (new_key r s b.who v n b.key) s)
+    with_done (new_done s b n (Num v)) (gives r (new_key r s b.who v n b.key) s)
 after r (asks x k u) s =
-    with-taken x.number
+    with_taken x.number
     (sends (new_asked s x.line x.line.service k x.line.what x.line.at x.number x.since) s)
-after r (does b n w t) s = said (receipt b.key n ∷ []) (with-done (new_done s b n w) s)
+after r (does b n w t) s = said (receipt b.key n ∷ []) (with_done (new_done s b n w) s)
 
 -- something was done under this key and number by this service, and is still remembered
 pub record DoneBefore (r : Rules) (s : State) (service : ℕ) (key number : Term) : Type 0 where
@@ -144,21 +144,21 @@ pub record DoneBefore (r : Rules) (s : State) (service : ℕ) (key number : Term
 
 -- a reader can want of any service but the house, in words that anybody can write
 pub record Wants (r : Rules) (s : State) (service : ℕ) (what : Term) : Type 0 where
-  pub a-service : service ≡ r.house → ⊥
+  pub a_service : service ≡ r.house → ⊥
   pub writable : Gets s.air what
 
 -- the house hears a login of lately, of an account that is open
 pub record HearsLogin (r : Rules) (s : State) (who : ℕ) (number : Term) (at : ℕ) : Type 0 where
   pub heard : Gets s.air (login who number at)
-  pub in-time : Lately (early r) r.lag s.now at
+  pub in_time : Lately (early r) r.lag s.now at
   pub is_open : is_closed who s.closed ≡ false
 
 -- the house or a service hears a ticket for itself and an asking of lately under its key, for the first time
 pub record Hears (r : Rules) (s : State) (b : Body) (number what : Term) (at : ℕ) : Type 0 where
-  pub ticket-heard : Gets s.air (ticket r b)
-  pub asking-heard : Gets s.air (asking b.key b.service number what at)
-  pub in-time : Lately (early r) r.lag s.now at
-  pub is-good : Good s.now b.until
+  pub ticket_heard : Gets s.air (ticket r b)
+  pub asking_heard : Gets s.air (asking b.key b.service number what at)
+  pub in_time : Lately (early r) r.lag s.now at
+  pub is_good : Good s.now b.until
   pub is-new : DoneBefore r s b.service b.key number → ⊥
 
 -- a letter comes for something that is under way at this stage, and for which none was taken yet
@@ -171,22 +171,22 @@ pub record Takes (s : State) (x : Wish) (stage : Stage) (key : Term) (service : 
 -- a ticket is held: something was asked under its key
 pub record HoldsHouse (r : Rules) (s : State) (q : Asked) : Type 0 where
   pub known : Memᴰ q s.asked
-  pub the-house : q.service ≡ r.house
+  pub the_house : q.service ≡ r.house
 
 pub record HoldsService (r : Rules) (s : State) (q : Asked) : Type 0 where
   pub known : Memᴰ q s.asked
-  pub a-service : q.service ≡ r.house → ⊥
+  pub a_service : q.service ≡ r.house → ⊥
 
 -- what the house needs for giving a ticket for a service
 pub record Serves (r : Rules) (s : State) (b : Body) (number : Term) (service at : ℕ) : Type 0 where
   pub for-house : b.service ≡ r.house
-  pub a-service : service ≡ r.house → ⊥
+  pub a_service : service ≡ r.house → ⊥
   pub hears : Hears r s b number (Num service) at
   pub is_open : is_closed b.who s.closed ≡ false
 
 -- what a service needs for doing what is asked
 pub record Does (r : Rules) (s : State) (b : Body) (number what : Term) (at : ℕ) : Type 0 where
-  pub a-service : b.service ≡ r.house → ⊥
+  pub a_service : b.service ≡ r.house → ⊥
   pub hears : Hears r s b number what at
 
 -- what an event needs

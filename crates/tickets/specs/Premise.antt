@@ -27,10 +27,10 @@ abbrev pub fit : Made → Bool
 fit m = ltb 0 m.kind && (leb m.kind 5 && (eqb (length m.key) 32 && (eqb (length m.drawn) 16 && (are_bytes m.key && (are_bytes m.drawn && are_bytes m.inside)))))
 
 -- the code's two functions, by kind, key, drawn bytes and inside or word; and which terms rows of bytes stand for, to whoever has air, all that was sent; locks that were made in this run, and its keys
-pub record Premise (lock : ℕ → Bytes → Bytes → Bytes → Bytes) (opens : ℕ → Bytes → Bytes → Opened) (termOf : Bytes → Term) (air : List Term) (made : List Made) (keys : List Bytes) : Type 0 where
+pub record Premise (lock : ℕ → Bytes → Bytes → Bytes → Bytes) (opens : ℕ → Bytes → Bytes → Opened) (term_of : Bytes → Term) (air : List Term) (made : List Made) (keys : List Bytes) : Type 0 where
   -- this is to be shown of the code: what was locked opens, with this key and kind
   pub fits : (m : Made) → fit m ≡ true → opens m.kind m.key (lock m.kind m.key m.drawn m.inside) ≡ Inside m.inside
   -- the bytes of a lock that was made stand for that lock
-  pub stands : (m : Made) → Memᴰ m made → termOf (lock m.kind m.key m.drawn m.inside) ≡ Lock m.kind (termOf m.key) (termOf m.inside)
+  pub stands : (m : Made) → Memᴰ m made → term_of (lock m.kind m.key m.drawn m.inside) ≡ Lock m.kind (term_of m.key) (term_of m.inside)
   -- and this is the premise: of the words that outsiders can bring, as far as they can be worked out from all that was sent, one that opens with a key of this run that can't was locked with it, of this kind
-  pub premise : (kind : ℕ) (key word inside : Bytes) → Memᴰ key keys → Gets air (termOf word) → opens kind key word ≡ Inside inside → (Gets air (termOf key)) ⊎ (termOf word ≡ Lock kind (termOf key) (termOf inside))
+  pub premise : (kind : ℕ) (key word inside : Bytes) → Memᴰ key keys → Gets air (term_of word) → opens kind key word ≡ Inside inside → (Gets air (term_of key)) ⊎ (term_of word ≡ Lock kind (term_of key) (term_of inside))

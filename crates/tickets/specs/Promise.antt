@@ -8,96 +8,96 @@ use Rattle.tickets.specs.Event.{Body, ticket, asking, receipt, Event, begins, gr
 -- the deed was asked: by that reader, of that service, under that key and number, in those words, of lately
 pub record Answers (r : Rules) (s : State) (d : Done) (q : Asked) : Type 0 where
   pub known : Memᴰ q s.asked
-  pub by-reader : q.line.reader ≡ d.who
-  pub of-service : q.service ≡ d.service
+  pub by_reader : q.line.reader ≡ d.who
+  pub of_service : q.service ≡ d.service
   pub same_key : q.key ≡ d.key
   pub same_number : even q.number ≡ d.number
   pub in_words : q.what ≡ d.what
-  pub in-time : Lately (early r) r.lag d.at q.at
-  pub from-line : Memᴰ q.line s.lines
+  pub in_time : Lately (early r) r.lag d.at q.at
+  pub from_line : Memᴰ q.line s.lines
 
 -- an asking to a service says what its line says: of which service, in which words, at which tick
 pub record AsWanted (q : Asked) : Type 0 where
-  pub of-service : q.line.service ≡ q.service
+  pub of_service : q.line.service ≡ q.service
   pub in_words : q.line.what ≡ q.what
   pub at_tick : q.line.at ≡ q.at
 
 -- where a deed of a service comes from: a reader's asking, from a line that says the same
 pub data Origin (r : Rules) (s : State) (d : Done) : Type 0 where
-  by-reader : (q : Asked) → Answers r s d q → AsWanted q → Origin r s d
+  by_reader : (q : Asked) → Answers r s d q → AsWanted q → Origin r s d
 
 -- the line from which a deed comes
 abbrev pub origin_line : {r : Rules} {s : State} {d : Done} → Origin r s d → Line
-origin_line (by-reader q a w) = q.line
+origin_line (by_reader q a w) = q.line
 
 -- a key was made for this reader and service, upon this number, after it was under way
 pub record MadeUpon (s : State) (who service : ℕ) (key : Term) (upon since : ℕ) (m : Key) : Type 0 where
   pub known : Memᴰ m s.made
-  pub for-reader : m.who ≡ who
+  pub for_reader : m.who ≡ who
   pub for-service : m.service ≡ service
   pub same_key : key ≡ even m.key
   pub same_number : m.upon ≡ even upon
-  pub not-before : since ≤ m.at
+  pub not_before : since ≤ m.at
 
 -- a ticket was made by the house, with just this inside
 pub record MadeFor (s : State) (b : Body) (m : Key) : Type 0 where
   pub known : Memᴰ m s.made
-  pub for-reader : m.who ≡ b.who
+  pub for_reader : m.who ≡ b.who
   pub for-service : m.service ≡ b.service
   pub same_key : b.key ≡ even m.key
-  pub same-until : b.until ≡ m.until
+  pub same_until : b.until ≡ m.until
 
 -- what was under way when the key of an asking came: a login of that reader, for the house; an asking of that reader for that service, else
 pub record CameBy (r : Rules) (s : State) (q : Asked) (x : Wish) : Type 0 where
   pub known : Memᴰ x s.wishes
-  pub by-reader : x.line.reader ≡ q.line.reader
+  pub by_reader : x.line.reader ≡ q.line.reader
   pub same_number : x.number ≡ q.upon
-  pub same-since : x.since ≡ q.since
+  pub same_since : x.since ≡ q.since
   pub login : q.service ≡ r.house → x.stage ≡ LoggingIn
   pub asking : (q.service ≡ r.house → ⊥) → x.stage ≡ AskingHouse
   pub for-service : (q.service ≡ r.house → ⊥) → x.line.service ≡ q.service
-  pub from-line : Memᴰ x.line s.lines
+  pub from_line : Memᴰ x.line s.lines
 
 -- an asking under the key m that names a service, sent by the reader that the key was made for, to that service
 pub record SentUnder (s : State) (m : Key) (service : ℕ) (number what : Term) (at : ℕ) (q : Asked) : Type 0 where
   pub known : Memᴰ q s.asked
-  pub by-reader : q.line.reader ≡ m.who
-  pub of-service : q.service ≡ service
-  pub key-for-service : m.service ≡ service
+  pub by_reader : q.line.reader ≡ m.who
+  pub of_service : q.service ≡ service
+  pub key_for_service : m.service ≡ service
   pub same_key : q.key ≡ even m.key
   pub same_number : even q.number ≡ number
   pub in_words : q.what ≡ what
   pub at_tick : q.at ≡ at
-  pub from-line : Memᴰ q.line s.lines
+  pub from_line : Memᴰ q.line s.lines
 
 -- a login that this reader began, no longer than the lag before the key was made upon it
 pub record Began (r : Rules) (s : State) (m : Key) (x : Wish) : Type 0 where
   pub known : Memᴰ x s.wishes
-  pub at-login : x.stage ≡ LoggingIn
-  pub by-reader : x.line.reader ≡ m.who
+  pub at_login : x.stage ≡ LoggingIn
+  pub by_reader : x.line.reader ≡ m.who
   pub same_number : m.upon ≡ even x.number
-  pub in-time : Lately (early r) r.lag m.at x.since
-  pub from-line : Memᴰ x.line s.lines
+  pub in_time : Lately (early r) r.lag m.at x.since
+  pub from_line : Memᴰ x.line s.lines
 
 -- an asking for the house by this reader, by a line for the key's service, no longer than the lag before the key was made upon it
 pub record WantedBy (r : Rules) (s : State) (m : Key) (q : Asked) : Type 0 where
   pub known : Memᴰ q s.asked
-  pub by-reader : q.line.reader ≡ m.who
-  pub of-house : q.service ≡ r.house
+  pub by_reader : q.line.reader ≡ m.who
+  pub of_house : q.service ≡ r.house
   pub for-service : q.line.service ≡ m.service
   pub same_key : q.key ≡ m.under
   pub same_number : m.upon ≡ even q.number
-  pub in-time : Lately (early r) r.lag m.at q.at
-  pub from-line : Memᴰ q.line s.lines
+  pub in_time : Lately (early r) r.lag m.at q.at
+  pub from_line : Memᴰ q.line s.lines
 
 -- the key that the house made by a deed of its own
 pub record GaveKey (s : State) (d : Done) (m : Key) : Type 0 where
   pub known : Memᴰ m s.made
-  pub for-reader : m.who ≡ d.who
+  pub for_reader : m.who ≡ d.who
   pub for-service : Num m.service ≡ d.what
   pub same_number : m.upon ≡ d.number
   pub same_key : m.under ≡ d.key
-  pub same-tick : m.at ≡ d.at
+  pub same_tick : m.at ≡ d.at
 
 -- the six events by which a reader is served from a state, the newest first
 abbrev pub six : Rules → State → (reader service : ℕ) → (what : Term) → List Event
@@ -113,21 +113,21 @@ six r s a v w =
 -- after the six events: the same tick, nothing stolen or closed, one line more, a new deed of just this line, and a receipt for it
 pub record ServedBy (r : Rules) (s : State) (a v : ℕ) (w : Term) (t : State) : Type 0 where
   pub possible : Later r s (six r s a v w) t
-  pub same-tick : t.now ≡ s.now
-  pub nothing-stolen : t.stolen ≡ s.stolen
-  pub nothing-closed : t.closed ≡ s.closed
+  pub same_tick : t.now ≡ s.now
+  pub nothing_stolen : t.stolen ≡ s.stolen
+  pub nothing_closed : t.closed ≡ s.closed
   pub one_line : t.lines ≡ new_line s a v w ∷ s.lines
   pub deed : Done
-  pub ticket-given : Done
-  pub two-deeds : t.done ≡ deed ∷ ticket-given ∷ s.done
-  pub as-reader : deed.who ≡ a
-  pub by-service : deed.service ≡ v
+  pub ticket_given : Done
+  pub two_deeds : t.done ≡ deed ∷ ticket_given ∷ s.done
+  pub as_reader : deed.who ≡ a
+  pub by_service : deed.service ≡ v
   pub in_words : deed.what ≡ w
   pub at_once : deed.at ≡ s.now
-  pub the-asking : Asked
-  pub accounts : Answers r t deed the-asking
-  pub of-line : the-asking.line ≡ new_line s a v w
-  pub told : Gets t.air (receipt the-asking.key (even the-asking.number))
+  pub the_asking : Asked
+  pub accounts : Answers r t deed the_asking
+  pub of-line : the_asking.line ≡ new_line s a v w
+  pub told : Gets t.air (receipt the_asking.key (even the_asking.number))
 
 -- What a service did, the reader asked of it, in those words, not later and no more than the lag before, from a line of that reader that says the same; unless a key of the three had been stolen by then.
 abbrev pub AskedFor : Rules → State → Type 0
@@ -215,16 +215,16 @@ Served r s =
 pub record Whole (r : Rules) (s : State) : Type 0 where
   pub asked-for : AskedFor r s
   pub granted : Granted r s
-  pub house-gave : HouseGave r s
-  pub ticket-asked : TicketAsked r s
+  pub house_gave : HouseGave r s
+  pub ticket_asked : TicketAsked r s
   pub once : Once r s
-  pub once-by-number : OnceByNumber r s
+  pub once_by_number : OnceByNumber r s
   pub kept : Kept r s
-  pub own-kept : OwnKept r s
+  pub own_kept : OwnKept r s
   pub ticket-made : TicketMade r s
   pub asking-made : AskingMade r s
   pub over : Over r s
-  pub no-ticket : NoTicket r s
+  pub no_ticket : NoTicket r s
   pub logged-in : LoggedIn r s
   pub fresh : Fresh r s
   pub heard : Heard r s

@@ -15,8 +15,8 @@ pub record Rules : Type 0 where
 
 -- a tick t is of lately at now: no more than early ahead of it, no more than late behind
 pub record Lately (early late now t : ℕ) : Type 0 where
-  pub not-ahead : t ≤ now + early
-  pub not-old : now ≤ t + late
+  pub not_ahead : t ≤ now + early
+  pub not_old : now ≤ t + late
 
 -- a ticket that is good until then is good now
 abbrev pub Good : (now until : ℕ) → Type 0
@@ -162,33 +162,33 @@ abbrev pub said : List Term → State → State
 said ts s = record { now = s.now; next = s.next; air = ts ++ s.air; stolen = s.stolen; closed = s.closed; lines = s.lines; wishes = s.wishes; taken = s.taken; made = s.made; asked = s.asked; done = s.done }
 
 -- the own key with this name is stolen
-abbrev pub with-stolen : ℕ → State → State
-with-stolen a s = record { now = s.now; next = s.next; air = s.air; stolen = a ∷ s.stolen; closed = s.closed; lines = s.lines; wishes = s.wishes; taken = s.taken; made = s.made; asked = s.asked; done = s.done }
+abbrev pub with_stolen : ℕ → State → State
+with_stolen a s = record { now = s.now; next = s.next; air = s.air; stolen = a ∷ s.stolen; closed = s.closed; lines = s.lines; wishes = s.wishes; taken = s.taken; made = s.made; asked = s.asked; done = s.done }
 
 -- an account is closed
-abbrev pub with-closed : Closing → State → State
-with-closed c s = record { now = s.now; next = s.next; air = s.air; stolen = s.stolen; closed = c ∷ s.closed; lines = s.lines; wishes = s.wishes; taken = s.taken; made = s.made; asked = s.asked; done = s.done }
+abbrev pub with_closed : Closing → State → State
+with_closed c s = record { now = s.now; next = s.next; air = s.air; stolen = s.stolen; closed = c ∷ s.closed; lines = s.lines; wishes = s.wishes; taken = s.taken; made = s.made; asked = s.asked; done = s.done }
 
 -- a reader has written a line
-abbrev pub with-line : Line → State → State
-with-line l s = record { now = s.now; next = s.next; air = s.air; stolen = s.stolen; closed = s.closed; lines = l ∷ s.lines; wishes = s.wishes; taken = s.taken; made = s.made; asked = s.asked; done = s.done }
+abbrev pub with_line : Line → State → State
+with_line l s = record { now = s.now; next = s.next; air = s.air; stolen = s.stolen; closed = s.closed; lines = l ∷ s.lines; wishes = s.wishes; taken = s.taken; made = s.made; asked = s.asked; done = s.done }
 
 -- something is under way
-abbrev pub with-wish : Wish → State → State
-with-wish x s = record { now = s.now; next = s.next; air = s.air; stolen = s.stolen; closed = s.closed; lines = s.lines; wishes = x ∷ s.wishes; taken = s.taken; made = s.made; asked = s.asked; done = s.done }
+abbrev pub with_wish : Wish → State → State
+with_wish x s = record { now = s.now; next = s.next; air = s.air; stolen = s.stolen; closed = s.closed; lines = s.lines; wishes = x ∷ s.wishes; taken = s.taken; made = s.made; asked = s.asked; done = s.done }
 
 -- the letter for this number is taken
-abbrev pub with-taken : ℕ → State → State
-with-taken n s = record { now = s.now; next = s.next; air = s.air; stolen = s.stolen; closed = s.closed; lines = s.lines; wishes = s.wishes; taken = n ∷ s.taken; made = s.made; asked = s.asked; done = s.done }
+abbrev pub with_taken : ℕ → State → State
+with_taken n s = record { now = s.now; next = s.next; air = s.air; stolen = s.stolen; closed = s.closed; lines = s.lines; wishes = s.wishes; taken = n ∷ s.taken; made = s.made; asked = s.asked; done = s.done }
 
 -- a session key is made
 abbrev pub with-key : Key → State → State
 with-key m s = record { now = s.now; next = s.next; air = s.air; stolen = s.stolen; closed = s.closed; lines = s.lines; wishes = s.wishes; taken = s.taken; made = m ∷ s.made; asked = s.asked; done = s.done }
 
 -- something is asked
-abbrev pub with-asked : Asked → State → State
-with-asked q s = record { now = s.now; next = s.next; air = s.air; stolen = s.stolen; closed = s.closed; lines = s.lines; wishes = s.wishes; taken = s.taken; made = s.made; asked = q ∷ s.asked; done = s.done }
+abbrev pub with_asked : Asked → State → State
+with_asked q s = record { now = s.now; next = s.next; air = s.air; stolen = s.stolen; closed = s.closed; lines = s.lines; wishes = s.wishes; taken = s.taken; made = s.made; asked = q ∷ s.asked; done = s.done }
 
 -- something is done
-abbrev pub with-done : Done → State → State
-with-done d s = record { now = s.now; next = s.next; air = s.air; stolen = s.stolen; closed = s.closed; lines = s.lines; wishes = s.wishes; taken = s.taken; made = s.made; asked = s.asked; done = d ∷ s.done }
+abbrev pub with_done : Done → State → State
+with_done d s = record { now = s.now; next = s.next; air = s.air; stolen = s.stolen; closed = s.closed; lines = s.lines; wishes = s.wishes; taken = s.taken; made = s.made; asked = s.asked; done = d ∷ s.done }

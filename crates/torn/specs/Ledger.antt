@@ -3,8 +3,8 @@
 -- listed_in r      the accounts, by their numbers
 -- works_for r      the device writes: it was not told otherwise, and no write was cut since the last start
 -- is_new left      what was written stands
--- reread c xs     what is read again, by how the last write was cut
--- Reads r r'      what a start reads again
+-- reread c xs      what is read again, by how the last write was cut
+-- Reads r r'       what a start reads again
 use Rattle.std.specs.Prelude.{◌≡◌, Bool, true, false, cond, not, ◌&&◌, List, is_some, Some, None, Option, nat_lt, slice_set}
 use Rattle.parts.specs.declared.account.Account.{Account}
 use Rattle.torn.specs.declared.ledger.CutSet.{CutSet}

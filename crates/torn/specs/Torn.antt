@@ -1,8 +1,8 @@
 -- A memory whose next write can be cut. Assumes nothing.
 --
--- entries t, is_junk t   what is remembered, and whether something on the device can't be read
+-- entries t, is_junk t  what is remembered, and whether something on the device can't be read
 -- works t               the device writes: it was not told otherwise, and no write was cut since the last start
--- cut_of left d          a write of the digest d that leaves this
+-- cut_of left d         a write of the digest d that leaves this
 -- Tears t left t'       the next write of t is to be cut so
 -- Restarts now lag t t' what is read again after a crash
 use Rattle.std.specs.Prelude.{◌≡◌, ℕ, Bool, not, ◌&&◌, List, is_some, Some, None, vec_items, Option}

@@ -1,7 +1,7 @@
 -- The five words of the line, in bytes: how they are framed, and how they are written. Assumes nothing.
 --   Frame         a word by its parts: what it says in the open, and its locks
 --   framed bs     the word that bs are, or the fault
---   write_word f   the bytes of a word
+--   write_word f  the bytes of a word
 --   fits f        each lock has 32 to 65,535 bytes
 use Rattle.std.specs.Prelude.{◌≡◌, ℕ, ◌+◌, Bool, true, false, cond, List, [], ◌∷◌, ◌++◌, length, drop, Some, None, Ok, Err, vec_items, Option, Result, Vec, ◌==◌, nat_le}
 use Rattle.std.specs.Option.{option_map, ok_or}

@@ -1,5 +1,5 @@
 -- What a text of bytes says, word by word. Assumes nothing.
---   before b s     how many bytes of s stand before its first b
+--   before b s      how many bytes of s stand before its first b
 --   cut_at b s      what stands before and after the first b of s
 --   decimal_of s    the number that s writes in decimal
 --   principal_of s  the principal's number that s writes

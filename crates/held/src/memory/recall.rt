@@ -2,7 +2,7 @@
 ghost use Rattle.parts.specs.declared.account.Entry.{Entry};
 ghost use Rattle.held.specs.Crash.{rejunk, reread};
 ghost use Rattle.std.specs.Prelude.{◌≡◌, true, false, [], IfOk};
-ghost use Rattle.std.proofs.Common.{rules, arith};
+ghost use Rattle.std.proofs.Common.{rules};
 
 use super::entries::{forget, highest_in, live_in, stands_in};
 use super::{Cut, Held};
@@ -63,7 +63,7 @@ impl Memory for Held {
 
     ghost keeps = { λ h i. h.writes ≡ i.writes };
 
-    ghost same = { first_of (Prim.search rules, Prim.grind (arith, Self.row.coded.inj)) };
+    ghost same = { Prim.search rules };
 
     fn stands(&self, digest: u128, tick: u64, lag: u64) -> bool {
         stands_in(self.entries.as_slice(), digest, tick, lag)

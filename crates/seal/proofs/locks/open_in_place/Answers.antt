@@ -1,7 +1,7 @@
 use Rattle.std.proofs.Common.{◌≡◌, ◌-◌, length, take, ap, ◌∙◌, arith}
 use Rattle.seal.specs.Kind.{number_of}
 use Rattle.seal.specs.Lock.{sum}
-use Rattle.seal.proofs.Opening.{tried-shut, tried_open, fits-short, fits-compared, opens-again, opens-only}
+use Rattle.seal.proofs.Opening.{tried-shut, tried_open, fits-short, fits-compared, opens_again, opens-only}
 use Rattle.seal.proofs.locks.open_in_place.Goals as goal
 
 pub returns-then-word-lt-AROUND : goal.returns-then-word-lt-AROUND
@@ -10,7 +10,7 @@ returns-then-word-lt-AROUND c =
     let key = c.args.key.now in
     let w = c.args.word.now in
     let t = tried-shut k key w (fits-short k key w c.if-word-lt-AROUND.true) in
-    record { word = t.0; test = t.1; inside = t.2; again = opens-again; locks = opens-only }
+    record { word = t.0; test = t.1; inside = t.2; again = opens_again; locks = opens-only }
 
 pub returns-then-not-same_sum : goal.returns-then-not-same_sum
 returns-then-not-same_sum c =
@@ -23,7 +23,7 @@ returns-then-not-same_sum c =
     fits-compared k key w c.copy_from_slice.new.self c.sum_of.result c.same_sum.result
     c.if-word-lt-AROUND.false c.copy_from_slice.ensures.after s c.same_sum.ensures in
     let t = tried-shut k key w (fit ∙ c.if-not-same_sum.true) in
-    record { word = t.0; test = t.1; inside = t.2; again = opens-again; locks = opens-only }
+    record { word = t.0; test = t.1; inside = t.2; again = opens_again; locks = opens-only }
 
 pub returns : goal.returns
 returns c =
@@ -37,4 +37,4 @@ returns c =
     c.if-word-lt-AROUND.false c.copy_from_slice.ensures.after s c.same_sum.ensures in
     let t = tried_open k key w c.turn_inside.new.word (fit ∙ c.if-not-same_sum.false)
     (c.turn_inside.ensures key c.new-keyed.ensures) in
-    record { word = t.0; test = t.1; inside = t.2; again = opens-again; locks = opens-only }
+    record { word = t.0; test = t.1; inside = t.2; again = opens_again; locks = opens-only }

@@ -1,7 +1,7 @@
 use Rattle.judge_rules.proofs.Lines.{spends-none, taken, within}
 use Rattle.judge_rules.proofs.record.Judge.judge.Goals as goal
 use Rattle.judge_rules.specs.Find.{found_at}
-use Rattle.judge_rules.specs.Judge.{Noted, act_of, oldest, plain, said, unasked, robbed, seen, with-lines}
+use Rattle.judge_rules.specs.Judge.{Noted, act_of, oldest, plain, said, unasked, robbed, seen, with_lines}
 use Rattle.judge_rules.specs.declared.record.Line.{Line}
 use Rattle.std.proofs.Common.{◌≡◌, List, map, Some, None, vec_items, sym, ap, ◌∙◌, subst, arith, rules}
 
@@ -12,7 +12,7 @@ returns-in_default c =
     let s = spends-none c.args.self.now.lag (act_of c.args.done.now) 0 (map plain (vec_items c.args.self.now.lines)) e in
     record {
       answer = c.without_line.ensures ∙ ap (λ o. said o (unasked (robbed (seen c.args.self.now) c.args.done.now.reader) (robbed (seen c.args.self.now) c.args.done.now.service) (robbed (seen c.args.self.now) 0))) (sym s.0);
-      after = ap (λ (ls : List Noted). with-lines ls (seen c.args.self.now)) (sym s.1);
+      after = ap (λ (ls : List Noted). with_lines ls (seen c.args.self.now)) (sym s.1);
     }
 
 pub index-line-requires : goal.index-line-requires
@@ -39,5 +39,5 @@ returns c =
     let t = taken c.args.self.now.lag (act_of c.args.done.now) (vec_items c.args.self.now.lines) c.in-Some.i c.index-line.result.now e c.index-line.ensures in
     record {
       answer = ap (λ o. said o (unasked (robbed (seen c.args.self.now) c.args.done.now.reader) (robbed (seen c.args.self.now) c.args.done.now.service) (robbed (seen c.args.self.now) 0))) (sym t.is);
-      after = ap (λ (ls : List Noted). with-lines ls (seen c.args.self.now)) t.spends;
+      after = ap (λ (ls : List Noted). with_lines ls (seen c.args.self.now)) t.spends;
     }
