@@ -7,8 +7,10 @@ import os
 import re
 import sys
 
+from respell import PART, files
+
 MORE = "as_mut_slice as_slice as_str into_iter deref_mut index_mut from_residual as_ref as_mut is_some is_none is_ok is_err"
-WORD = re.compile(r"[\w'\-\u2080-\u2089]+")
+WORD = re.compile(PART + "+")
 DEF = re.compile(r"^\s*(?:(?:abbrev|unfoldable|pub)\s+)*([^\s:(){}.,=]+)(?:\s*\([^)]*\)|\s*\{[^}]*\})*\s+:\s", re.M)
 
 
@@ -17,16 +19,8 @@ def read(path):
         return f.read()
 
 
-def below(folder, ending):
-    for at, dirs, found in os.walk(folder):
-        dirs[:] = sorted(d for d in dirs if d != "out")
-        for name in sorted(found):
-            if name.endswith(ending):
-                yield os.path.join(at, name)
-
-
 def crate(name, own):
-    src = "\n".join(read(p) for p in below(f"crates/{name}/src", ".rt"))
+    src = "\n".join(read(p) for p in files(f"crates/{name}/src", ".rt"))
     words = set(re.findall(r"\w+", src)) | set(MORE.split())
     words = sorted((w for w in words if "_" in w.strip("_")), key=len, reverse=True)
     forms = [(re.compile(r"(?<![\w'])" + re.escape(w.replace("_", "-")) + r"(?![\w'])"), w) for w in words]
@@ -40,7 +34,7 @@ def crate(name, own):
         return new
 
     count = 0
-    for path in below(f"crates/{name}/proofs", ".antt"):
+    for path in files(f"crates/{name}/proofs", ".antt"):
         if os.path.basename(path) not in ("Answers.antt", "Invariants.antt", "Proof.antt"):
             continue
         old = read(path)
@@ -59,8 +53,6 @@ def crate(name, own):
                 return turned(t)
             return t
 
-        lines = []
-        pos = 0
         new = WORD.sub(one, old)
         if new != old:
             with open(path, "w", encoding="utf-8") as f:
@@ -74,7 +66,7 @@ def main():
     own = set()
     for folder in sorted(os.listdir("crates")):
         for sub in ("specs", "proofs"):
-            for path in below(f"crates/{folder}/{sub}", ".antt"):
+            for path in files(f"crates/{folder}/{sub}", ".antt"):
                 text = read(path)
                 own |= {m for m in DEF.findall(text)} - set(re.findall(r"goal\.([\w'\-]+)", text))
     for name in names:
