@@ -1,29 +1,29 @@
 -- What is answered and left, by what was found wrong. Assumes nothing.
-use Rattle.std.proofs.Common.{◌≡◌, ℕ, ◌+◌, ◌<◌, ◌≤◌, Bool, true, false, cond, not, ◌&&◌, List, length, drop, Some, None, Option, sym, refl, ap, ◌∙◌}
+use Rattle.std.proofs.Common.{◌≡◌, ℕ, ◌+◌, ◌<◌, ◌≤◌, Bool, true, false, cond, not, ◌&&◌, List, length, drop, Some, None, Err, Option, sym, refl, ap, ◌∙◌, subst}
 use Rattle.house_rules.specs.Account.{own_key}
-use Rattle.house_rules.specs.Give.{giving}
+use Rattle.house_rules.specs.Give.{Reply, giving}
 use Rattle.house_rules.specs.House.{Decides, Home, LogsIn, asked_given, conditions, drew, granted, home, judged, logged_in, login_after, login_conditions, login_given, login_judged, noted, readable, refusal, until_of, wanted}
 use Rattle.house_rules.specs.declared.give.Given.{Given}
 use Rattle.house_rules.specs.declared.house.House.{House}
-use Rattle.house_rules.specs.declared.reply.Reply.{Reply}
-use Rattle.house_rules.specs.declared.reply.Reply.TheVariants.{Refused}
 use Rattle.parts.proofs.Conditions.{first_fault-cons, first_fault-last-none, first_fault-last-some, first_fault-nil, lowest-first, passed}
 use Rattle.parts.specs.Condition.{Lowest, first_fault, unless}
 use Rattle.parts.specs.declared.account.Account.{Account}
 use Rattle.parts.specs.declared.account.Entry.{Entry}
 use Rattle.parts.specs.declared.fault.Fault.{Fault}
 use Rattle.parts.specs.declared.fault.Fault.TheVariants.{BadInside, NotNow}
+use Rattle.parts.specs.declared.tick.Clock.{Clock}
 use Rattle.parts.specs.declared.word.Asking.{Asking}
 use Rattle.parts.specs.declared.word.Key.{Key}
 use Rattle.parts.specs.declared.word.Login.{Login}
 use Rattle.parts.specs.declared.word.Number.{Number}
 use Rattle.parts.specs.declared.word.Ticket.{Ticket}
 use Rattle.service_rules.specs.Memory.{live_of, recorded}
+use Rattle.service_rules.specs.Side.{clock_of}
 use Rattle.service_rules.specs.declared.side.Side.{Side}
 use Rattle.std.proofs.lemmas.Bool.{both_ways, leb-false, ltb-false}
 
 -- the lowest of a table is told, whatever is given where there is none
-pub told : (o : Option Fault) (u : ℕ) (bs : List ℕ) (g : Given) → refusal (unless o (giving u bs g) Refused) ≡ o
+pub told : (o : Option Fault) (u : ℕ) (bs : List ℕ) (g : Given) → refusal (unless o (giving u bs g) Err) ≡ o
 told None u bs g = refl
 told (Some f) u bs g = refl
 
@@ -59,10 +59,10 @@ login-lowest h a l r e =
     (ap (λ (x : Reply). refusal x) e ∙ told (first_fault (login_conditions h a l)) (until_of h) h.left (login_given h a l))
     refl
 
-pub login-refused : (h : Home) (a : ℕ) (l : Login) (f : Fault) → Some f ≡ first_fault (login_conditions h a l) → LogsIn h a l (Refused f) h
+pub login-refused : (h : Home) (a : ℕ) (l : Login) (f : Fault) → Some f ≡ first_fault (login_conditions h a l) → LogsIn h a l (Err f) h
 login-refused h a l f e =
-    let x : Refused f ≡ logged_in h a l = ap (λ (o : Option Fault). unless o (giving (until_of h) h.left (login_given h a l)) Refused) e in
-    record { answer = x; after = ap (λ (o : Option Fault). unless o (drew h) (λ _. h)) e; lowest = login-lowest h a l (Refused f) x }
+    let x : Err f ≡ logged_in h a l = ap (λ (o : Option Fault). unless o (giving (until_of h) h.left (login_given h a l)) Err) e in
+    record { answer = x; after = ap (λ (o : Option Fault). unless o (drew h) (λ _. h)) e; lowest = login-lowest h a l (Err f) x }
 
 pub login-granted :
     (H : House) (xs : List Account) (es : List Entry) (j w : Bool) (bs bs' : List ℕ) (a : ℕ) (l : Login) (r : Reply) (k : Key) →
@@ -76,7 +76,7 @@ login-granted H xs es j w bs bs' a l r k e f v m = by (home H xs es j w bs) refl
     h = home H xs es j w bs
 
     x : r ≡ logged_in h a l
-    x = v ∙ login-same (H.side.now + H.life) bs H.key k (own_key xs a) a l.number l.tick f ∙ ap (λ (o : Option Fault). unless o (giving (until_of h) bs (login_given h a l)) Refused) e
+    x = v ∙ login-same (H.side.now + H.life) bs H.key k (own_key xs a) a l.number l.tick f ∙ ap (λ (o : Option Fault). unless o (giving (until_of h) bs (login_given h a l)) Err) e
 
     y : home H xs es j w bs' ≡ login_after h a l
     y = ap (λ (b : List ℕ). home H xs es j w b) m ∙ ap (λ (o : Option Fault). unless o (drew h) (λ _. h)) e
@@ -106,28 +106,32 @@ met s xs es bs t q d h =
     let p12 = passed _ _ p10.1 in
     record { room = leb-false _ _ p9.0; drawn = ltb-false _ _ p12.0 }
 
+-- there is room at the clock of the side
+pub room_at : (s : Side) (k : Clock) (xs : List Account) (es : List Entry) (bs : List ℕ) (t : Ticket) (q : Asking) (d : ℕ) → k ≡ clock_of s → Clear s xs es bs t q d → length (live_of k.tick k.lag es) < 8192
+room_at s k xs es bs t q d e h = subst (λ (x : Clock). length (live_of x.tick x.lag es) < 8192) (sym e) (met s xs es bs t q d h).room
+
 -- an asking that was read is answered by its table
 pub by-table : (h : Home) (t : Ticket) (q : Asking) (d : ℕ) (o : Option Fault) (r : Reply) (h' : Home) →
-    readable q ≡ true → first_fault (conditions h t q d) ≡ o → r ≡ unless o (granted h t q) Refused → h' ≡ unless o (drew (noted h d)) (λ _. h) →
+    readable q ≡ true → first_fault (conditions h t q d) ≡ o → r ≡ unless o (granted h t q) Err → h' ≡ unless o (drew (noted h d)) (λ _. h) →
     Decides h t q d r h'
 by-table h t q d o r h' y e v m =
-    let x : r ≡ unless (first_fault (conditions h t q d)) (granted h t q) Refused = v ∙ ap (λ (p : Option Fault). unless p (granted h t q) Refused) (sym e) in
+    let x : r ≡ unless (first_fault (conditions h t q d)) (granted h t q) Err = v ∙ ap (λ (p : Option Fault). unless p (granted h t q) Err) (sym e) in
     record {
-      answer = x ∙ ap (λ (b : Bool). cond b (unless (first_fault (conditions h t q d)) (granted h t q) Refused) (Refused BadInside)) (sym y);
+      answer = x ∙ ap (λ (b : Bool). cond b (unless (first_fault (conditions h t q d)) (granted h t q) Err) (Err BadInside)) (sym y);
       after = m ∙ ap (λ (p : Option Fault). unless p (drew (noted h d)) (λ _. h)) (sym e) ∙ ap (λ (b : Bool). cond b (unless (first_fault (conditions h t q d)) (drew (noted h d)) (λ _. h)) h) (sym y);
       lowest = λ _. lowest-first (conditions h t q d) (refusal r) (ap (λ (z : Reply). refusal z) x ∙ told (first_fault (conditions h t q d)) (until_of h) h.left (asked_given h t q)) refl;
     }
 
-pub unreadable : (h : Home) (t : Ticket) (q : Asking) (d : ℕ) → readable q ≡ false → Decides h t q d (Refused BadInside) h
+pub unreadable : (h : Home) (t : Ticket) (q : Asking) (d : ℕ) → readable q ≡ false → Decides h t q d (Err BadInside) h
 unreadable h t q d n = record {
-  answer = ap (λ (b : Bool). cond b (unless (first_fault (conditions h t q d)) (granted h t q) Refused) (Refused BadInside)) (sym n);
+  answer = ap (λ (b : Bool). cond b (unless (first_fault (conditions h t q d)) (granted h t q) Err) (Err BadInside)) (sym n);
   after = ap (λ (b : Bool). cond b (unless (first_fault (conditions h t q d)) (drew (noted h d)) (λ _. h)) h) (sym n);
   lowest = λ y. absurd (both_ways (readable q) n y);
 }
 
 pub refuses : (h : Home) (t : Ticket) (q : Asking) (d : ℕ) (f : Fault) → readable q ≡ true →
-    Some f ≡ first_fault (judged h.side h.accounts h.kept h.left t q d) → Decides h t q d (Refused f) h
-refuses h t q d f y e = by-table h t q d (Some f) (Refused f) h y (first_fault-last-some _ _ f e) refl refl
+    Some f ≡ first_fault (judged h.side h.accounts h.kept h.left t q d) → Decides h t q d (Err f) h
+refuses h t q d f y e = by-table h t q d (Some f) (Err f) h y (first_fault-last-some _ _ f e) refl refl
 
 -- what is left to go wrong is the write
 pub at-write : (h : Home) (t : Ticket) (q : Asking) (d : ℕ) → Clear h.side h.accounts h.kept h.left t q d → first_fault (conditions h t q d) ≡ cond (not h.writes) (Some NotNow) None
@@ -135,26 +139,26 @@ at-write h t q d e =
     first_fault-last-none _ _ (sym e) ∙ first_fault-cons _ _ ∙ ap (λ (o : Option Fault). cond (not h.writes) (Some NotNow) o) first_fault-nil
 
 pub left_alone :
-    (H : House) (xs : List Account) (es es' : List Entry) (j j' w r : Bool) (bs : List ℕ) (t : Ticket) (q : Asking) (d : ℕ) →
-    readable q ≡ true → Clear H.side xs es bs t q d → r ≡ w → r ≡ false → es' ≡ cond r (recorded H.side.now H.side.lag d es) es → j' ≡ (not r && j) →
-    Decides (home H xs es j w bs) t q d (Refused NotNow) (home H xs es' j' w bs)
-left_alone H xs es es' j j' w r bs t q d y h e f k l =
-    let k' : es' ≡ es = k ∙ ap (λ (b : Bool). cond b (recorded H.side.now H.side.lag d es) es) f in
+    (H : House) (c : Clock) (xs : List Account) (es es' : List Entry) (j j' w r : Bool) (bs : List ℕ) (t : Ticket) (q : Asking) (d : ℕ) →
+    readable q ≡ true → Clear H.side xs es bs t q d → r ≡ w → r ≡ false → es' ≡ cond r (recorded c.tick c.lag d es) es → j' ≡ (not r && j) →
+    Decides (home H xs es j w bs) t q d (Err NotNow) (home H xs es' j' w bs)
+left_alone H c xs es es' j j' w r bs t q d y h e f k l =
+    let k' : es' ≡ es = k ∙ ap (λ (b : Bool). cond b (recorded c.tick c.lag d es) es) f in
     let l' : j' ≡ j = l ∙ ap (λ (b : Bool). not b && j) f in
-    by-table (home H xs es j w bs) t q d (Some NotNow) (Refused NotNow) (home H xs es' j' w bs) y
+    by-table (home H xs es j w bs) t q d (Some NotNow) (Err NotNow) (home H xs es' j' w bs) y
     (at-write (home H xs es j w bs) t q d h ∙ ap (λ (b : Bool). cond (not b) (Some NotNow) None) (sym e ∙ f))
     refl
     (ap (λ (x : List Entry). home H xs x j' w bs) k' ∙ ap (λ (x : Bool). home H xs es x w bs) l')
 
 pub written :
-    (H : House) (xs : List Account) (es es' : List Entry) (j j' w r : Bool) (bs bs' : List ℕ) (t : Ticket) (q : Asking) (d : ℕ) (z : Reply) (v : ℕ) (k : Key) →
-    readable q ≡ true → Clear H.side xs es bs t q d → r ≡ w → r ≡ true → es' ≡ cond r (recorded H.side.now H.side.lag d es) es → j' ≡ (not r && j) →
+    (H : House) (c : Clock) (xs : List Account) (es es' : List Entry) (j j' w r : Bool) (bs bs' : List ℕ) (t : Ticket) (q : Asking) (d : ℕ) (z : Reply) (v : ℕ) (k : Key) →
+    readable q ≡ true → c ≡ clock_of H.side → Clear H.side xs es bs t q d → r ≡ w → r ≡ true → es' ≡ cond r (recorded c.tick c.lag d es) es → j' ≡ (not r && j) →
     v ≡ wanted q → k ≡ own_key xs v →
     z ≡ giving (H.side.now + H.life) bs (record { service = v; reader = t.reader; number = q.number; asked = q.tick; own = k; under = t.key }) →
     bs' ≡ drop 64 bs →
     Decides (home H xs es j w bs) t q d z (home H xs es' j' w bs')
-written H xs es es' j j' w r bs bs' t q d z v k y h e f n l vw kk zz m =
-    let k' : es' ≡ recorded H.side.now H.side.lag d es = n ∙ ap (λ (b : Bool). cond b (recorded H.side.now H.side.lag d es) es) f in
+written H c xs es es' j j' w r bs bs' t q d z v k y cc' h e f n l vw kk zz m =
+    let k' : es' ≡ recorded H.side.now H.side.lag d es = n ∙ ap (λ (b : Bool). cond b (recorded c.tick c.lag d es) es) f ∙ ap (λ (x : Clock). recorded x.tick x.lag d es) cc' in
     let l' : j' ≡ false = l ∙ ap (λ (b : Bool). not b && j) f in
     by-table (home H xs es j w bs) t q d None z (home H xs es' j' w bs') y
     (at-write (home H xs es j w bs) t q d h ∙ ap (λ (b : Bool). cond (not b) (Some NotNow) None) (sym e ∙ f))

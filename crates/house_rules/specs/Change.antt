@@ -2,43 +2,48 @@
 --
 -- opened xs n w        what an opening answers, where the device writes or not; opened_after: the accounts then
 -- shut xs n w          what a closing answers; shut_after: the accounts then
-use Rattle.std.specs.Prelude.{ℕ, Bool, cond, List, slice_set}
+use Rattle.std.specs.Prelude.{ℕ, Bool, cond, List, Ok, Err, Result, slice_set}
 use Rattle.house_rules.specs.Account.{account_of}
 use Rattle.house_rules.specs.declared.change.Changed.{Changed}
-use Rattle.house_rules.specs.declared.change.Changed.TheVariants.{Done, Refused, Same}
+use Rattle.house_rules.specs.declared.change.Changed.TheVariants.{Done, Same}
 use Rattle.parts.specs.declared.account.Account.{Account}
 use Rattle.parts.specs.declared.account.Account.TheVariants.{Absent, Closed, Open}
+use Rattle.parts.specs.declared.fault.Fault.{Fault}
 use Rattle.parts.specs.declared.fault.Fault.TheVariants.{NotNow, Unknown}
 use Rattle.parts.specs.declared.word.Key.{Key}
 use Rattle.service_rules.specs.Service.{nobody}
 
+-- it is done, nothing had to change, or it is refused
+abbrev pub Answer : Type 0
+Answer = Result Changed Fault
+
 -- a change is answered when it is written
-abbrev pub written : Bool → Changed
-written w = cond w Done (Refused NotNow)
+abbrev pub written : Bool → Answer
+written w = cond w (Ok Done) (Err NotNow)
 
 -- a number that is there stays as it is, whatever key is named
-abbrev pub opened_from : Account → Bool → Changed
+abbrev pub opened_from : Account → Bool → Answer
 opened_from Absent w = written w
-opened_from (Open k) w = Same
-opened_from (Closed k) w = Same
+opened_from (Open k) w = Ok Same
+opened_from (Closed k) w = Ok Same
 
-abbrev pub opened : List Account → ℕ → Bool → Changed
-opened xs n w = cond (nobody n) (Refused Unknown) (opened_from (account_of xs n) w)
+abbrev pub opened : List Account → ℕ → Bool → Answer
+opened xs n w = cond (nobody n) (Err Unknown) (opened_from (account_of xs n) w)
 
 -- one that is absent can't be closed
-abbrev pub shut_from : Account → Bool → Changed
-shut_from Absent w = Refused Unknown
+abbrev pub shut_from : Account → Bool → Answer
+shut_from Absent w = Err Unknown
 shut_from (Open k) w = written w
-shut_from (Closed k) w = Same
+shut_from (Closed k) w = Ok Same
 
-abbrev pub shut : List Account → ℕ → Bool → Changed
-shut xs n w = cond (nobody n) (Refused Unknown) (shut_from (account_of xs n) w)
+abbrev pub shut : List Account → ℕ → Bool → Answer
+shut xs n w = cond (nobody n) (Err Unknown) (shut_from (account_of xs n) w)
 
 -- the accounts with this one, if that was done
-abbrev pub changed : List Account → ℕ → Account → Changed → List Account
-changed xs n a Done = slice_set xs n a
-changed xs n a Same = xs
-changed xs n a (Refused f) = xs
+abbrev pub changed : List Account → ℕ → Account → Answer → List Account
+changed xs n a (Ok Done) = slice_set xs n a
+changed xs n a (Ok Same) = xs
+changed xs n a (Err f) = xs
 
 abbrev pub opened_after : List Account → ℕ → Key → Bool → List Account
 opened_after xs n k w = changed xs n (Open k) (opened xs n w)

@@ -1,12 +1,12 @@
 -- A ticket and a letter with one fresh key. Assumes nothing.
 --
 -- giving until bs g    what goes out, with the next drawn bytes, good until then
-use Rattle.std.specs.Prelude.{ℕ, List}
+use Rattle.std.specs.Prelude.{ℕ, List, Ok, Result}
 use Rattle.house_rules.specs.Fresh.{fresh_of}
 use Rattle.house_rules.specs.declared.give.Given.{Given}
 use Rattle.house_rules.specs.declared.reply.Grant.{Grant}
-use Rattle.house_rules.specs.declared.reply.Reply.{Reply}
-use Rattle.house_rules.specs.declared.reply.Reply.TheVariants.{Granted}
+use Rattle.house_rules.specs.declared.reply.Granted.{Granted}
+use Rattle.parts.specs.declared.fault.Fault.{Fault}
 use Rattle.parts.specs.declared.lock.Lock.{Lock}
 use Rattle.parts.specs.declared.word.Letter.{Letter}
 use Rattle.parts.specs.declared.word.Ticket.{Ticket}
@@ -31,5 +31,12 @@ letter_of u bs g = record {
   inside = record { number = g.number; service = g.service; key = (fresh_of bs).key; until = u };
 }
 
+-- a ticket and a letter go out, or it is refused
+abbrev pub Reply : Type 0
+Reply = Result Granted Fault
+
+abbrev pub given_out : ℕ → List ℕ → Given → Granted
+given_out u bs g = record { grant = grant_of u g; ticket = ticket_of u bs g; letter = letter_of u bs g }
+
 abbrev pub giving : ℕ → List ℕ → Given → Reply
-giving u bs g = Granted (grant_of u g) (ticket_of u bs g) (letter_of u bs g)
+giving u bs g = Ok (given_out u bs g)

@@ -9,13 +9,11 @@
 -- after h t q d           what it is afterwards
 -- LogsIn, Decides         what is promised of a decision on a login, on an asking
 -- refusal r               the fault of an answer, if it is one
-use Rattle.std.specs.Prelude.{◌≡◌, ℕ, ◌+◌, ◌*◌, Bool, true, false, cond, not, ◌&&◌, ◌||◌, List, [], ◌∷◌, ◌++◌, length, drop, Some, None, Option, ◌==◌, nat_le, nat_lt, slice_index}
+use Rattle.std.specs.Prelude.{◌≡◌, ℕ, ◌+◌, ◌*◌, Bool, true, false, cond, not, ◌&&◌, ◌||◌, List, [], ◌∷◌, ◌++◌, length, drop, Some, None, Ok, Err, Option, ◌==◌, nat_le, nat_lt, slice_index}
 use Rattle.house_rules.specs.Account.{closed, own_key, unknown}
-use Rattle.house_rules.specs.Give.{giving}
+use Rattle.house_rules.specs.Give.{Reply, giving}
 use Rattle.house_rules.specs.declared.give.Given.{Given}
 use Rattle.house_rules.specs.declared.house.House.{House}
-use Rattle.house_rules.specs.declared.reply.Reply.{Reply}
-use Rattle.house_rules.specs.declared.reply.Reply.TheVariants.{Granted, Refused}
 use Rattle.parts.specs.Condition.{Lowest, first_fault, row, unless}
 use Rattle.parts.specs.Tick.{lately, over}
 use Rattle.parts.specs.declared.account.Account.{Account}
@@ -77,7 +75,7 @@ login_given h a l = record {
 
 abbrev pub logged_in : Home → ℕ → Login → Reply
 logged_in h a l =
-    unless (first_fault (login_conditions h a l)) (giving (until_of h) h.left (login_given h a l)) Refused
+    unless (first_fault (login_conditions h a l)) (giving (until_of h) h.left (login_given h a l)) Err
 
 -- the drawn bytes of a grant are used
 abbrev pub drew : Home → Home
@@ -163,14 +161,14 @@ granted h t q = giving (until_of h) h.left (asked_given h t q)
 
 -- an asking that can't be read is refused before its conditions are looked at
 abbrev pub answered : Home → Ticket → Asking → ℕ → Reply
-answered h t q d = cond (readable q) (unless (first_fault (conditions h t q d)) (granted h t q) Refused) (Refused BadInside)
+answered h t q d = cond (readable q) (unless (first_fault (conditions h t q d)) (granted h t q) Err) (Err BadInside)
 
 abbrev pub after : Home → Ticket → Asking → ℕ → Home
 after h t q d = cond (readable q) (unless (first_fault (conditions h t q d)) (drew (noted h d)) (λ _. h)) h
 
 abbrev pub refusal : Reply → Option Fault
-refusal (Granted g t l) = None
-refusal (Refused f) = Some f
+refusal (Ok x) = None
+refusal (Err f) = Some f
 
 -- what is promised of a decision: its answer, what it leaves, and that no lower fault was there
 pub record LogsIn (h : Home) (a : ℕ) (l : Login) (r : Reply) (h' : Home) : Type 0 where

@@ -8,9 +8,9 @@ use super::fresh::DRAWN;
 use super::give::Given;
 use super::house::House;
 use super::known::{is_closed, is_unknown, own_key};
-use super::reply::Reply;
-use parts::{Asking, Drawn, Fault, Ticket, check, is_lately, is_over, lowest};
-use service_rules::{Memory, ROOM, Side};
+use super::reply::Granted;
+use parts::{Asking, Drawn, Fault, Ticket, check, is_over, lowest};
+use service_rules::{Memory, ROOM};
 
 // Can what is asked be read? It is read only if the asking is for the house.
 fn is_readable(asking: &Asking) -> bool
@@ -23,8 +23,8 @@ fn is_readable(asking: &Asking) -> bool
 fn wanted_of(asking: &Asking) -> u16
     ensures { result ≡ wanted asking.now }
 {
-    let bytes = asking.what.bytes;
-    bytes[0] as u16 * 256 + bytes[1] as u16
+    let [high, low, ..] = asking.what.bytes;
+    u16::from_be_bytes([high, low])
 }
 
 // Is a service asked for that isn't there?
@@ -44,6 +44,7 @@ fn is_misled(asking: &Asking) -> bool
 
 impl House {
     // What is wrong with an asking that was read, of all that can be told before anything is written.
+    // Its rows stand in the order of the faults, those of a login around the others: one list would hide it.
     fn judge_asking<A: Accounts, M: Memory, D: Drawn>(
         &self,
         accounts: &A,
@@ -55,16 +56,16 @@ impl House {
     ) -> Option<Fault>
         ensures { result ≡ first_fault (judged self.now.side (A.listed accounts.now) (M.kept memory.now) (D.left drawn.now) ticket asking.now digest) }
     {
-        let Side { lag, now, .. } = self.side;
+        let clock = self.side.clock();
         let unknown = is_unknown(accounts, ticket.reader) || is_missing(accounts, asking);
         let wrong = ticket.service != 0 || is_misled(asking);
         lowest(&[
             check(Fault::Unknown, unknown),
             check(Fault::AccountClosed, is_closed(accounts, ticket.reader)),
-            check(Fault::NotLately, !is_lately(now, lag, asking.tick)),
-            check(Fault::TicketOver, is_over(now, ticket.until)),
-            check(Fault::DoneBefore, memory.stands(digest, now, lag)),
-            check(Fault::NoRoom, memory.live(now, lag) >= ROOM),
+            check(Fault::NotLately, !clock.is_lately(asking.tick)),
+            check(Fault::TicketOver, is_over(clock.tick, ticket.until)),
+            check(Fault::DoneBefore, memory.stands(digest, clock)),
+            check(Fault::NoRoom, memory.live(clock) >= ROOM),
             check(Fault::WrongService, wrong),
             check(Fault::NoDrawnBytes, drawn.count() < DRAWN),
             check(Fault::NotNow, self.side.waits()),
@@ -80,7 +81,7 @@ impl House {
         ticket: Ticket,
         asking: &Asking,
         digest: u128,
-    ) -> Reply
+    ) -> Result<Granted, Fault>
         ensures decides { Decides
             (home self.now (A.listed accounts.now) (M.kept memory.old) (M.junk memory.old) (M.Memory.writes memory.new) (D.left drawn.old))
             ticket asking.now digest result
@@ -88,14 +89,12 @@ impl House {
         ensures keeps { M.Memory.keeps memory.old memory.new }
     {
         if !is_readable(asking) {
-            return Reply::Refused(Fault::BadInside);
+            return Err(Fault::BadInside);
         }
         if let Some(fault) = self.judge_asking(accounts, memory, drawn, ticket, asking, digest) {
-            return Reply::Refused(fault);
+            return Err(fault);
         }
-        if !memory.record(digest, self.side.now, self.side.lag) {
-            return Reply::Refused(Fault::NotNow);
-        }
+        memory.record(digest, self.side.clock())?;
         let service = wanted_of(asking);
         let given = Given {
             service,
@@ -105,6 +104,6 @@ impl House {
             own: own_key(accounts, service),
             under: ticket.key,
         };
-        self.give(drawn, given)
+        Ok(self.give(drawn, given))
     }
 }

@@ -2,7 +2,7 @@
 ghost use Rattle.std.specs.Prelude.{◌≡◌, ◌≤◌, length, drop};
 ghost use Rattle.house_rules.specs.Fresh.{fresh_of};
 
-use parts::{Drawn, Key, Salt};
+use parts::{Drawn, Key, Salt, take};
 
 // How many bytes a grant draws.
 pub(crate) const DRAWN: usize = 64;
@@ -21,9 +21,9 @@ pub(crate) fn draw<D: Drawn>(drawn: &mut D) -> Fresh
     ensures value { result ≡ fresh_of (D.left drawn.old) }
     ensures rest { D.left drawn.new ≡ drop 64 (D.left drawn.old) }
 {
-    let key = Key(drawn.take_32());
-    let ticket = Salt(drawn.take_16());
-    let letter = Salt(drawn.take_16());
+    let key = Key(take(drawn));
+    let ticket = Salt(take(drawn));
+    let letter = Salt(take(drawn));
     Fresh {
         key,
         ticket,

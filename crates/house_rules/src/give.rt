@@ -1,14 +1,15 @@
 // A ticket and a letter with one fresh key.
 ghost use Rattle.std.specs.Prelude.{◌≡◌, ◌+◌, ◌≤◌, length, drop};
-ghost use Rattle.house_rules.specs.Give.{giving};
+ghost use Rattle.house_rules.specs.Give.{given_out};
 
 use super::fresh::draw;
 use super::house::House;
-use super::reply::{Grant, Reply};
+use super::reply::{Grant, Granted};
 use parts::{Drawn, Key, Letter, Lock, Number, Ticket};
 
 // For which service and whom, the number of the login or asking and its tick, the service's own key, under which the
 // ticket goes, and a key of the reader's, under which the letter goes.
+// Beside Grant: what is given before the key is drawn, and no `until` yet.
 #[derive(Clone, Copy)]
 pub struct Given {
     pub service: u16,
@@ -21,12 +22,13 @@ pub struct Given {
 
 impl House {
     // Draws a key, and gives it in a ticket and in a letter.
-    pub(crate) fn give<D: Drawn>(&self, drawn: &mut D, given: Given) -> Reply
+    // The bound stands here and in `draw`: nothing else is asked of the bytes that are left.
+    pub(crate) fn give<D: Drawn>(&self, drawn: &mut D, given: Given) -> Granted
         requires { 64 ≤ length (D.left drawn.old) }
-        ensures value { result ≡ giving (self.now.side.now + self.now.life) (D.left drawn.old) given }
+        ensures value { result ≡ given_out (self.now.side.now + self.now.life) (D.left drawn.old) given }
         ensures rest { D.left drawn.new ≡ drop 64 (D.left drawn.old) }
     {
-        let until = self.side.now + self.life as u64;
+        let until = self.side.now + u64::from(self.life);
         let fresh = draw(drawn);
         let Given {
             service,
@@ -36,15 +38,15 @@ impl House {
             own,
             under,
         } = given;
-        Reply::Granted(
-            Grant {
+        Granted {
+            grant: Grant {
                 reader,
                 service,
                 number,
                 asked,
                 until,
             },
-            Lock {
+            ticket: Lock {
                 key: own,
                 salt: fresh.ticket,
                 inside: Ticket {
@@ -54,7 +56,7 @@ impl House {
                     until,
                 },
             },
-            Lock {
+            letter: Lock {
                 key: under,
                 salt: fresh.letter,
                 inside: Letter {
@@ -64,6 +66,6 @@ impl House {
                     until,
                 },
             },
-        )
+        }
     }
 }

@@ -17,4 +17,4 @@ pub use change::{Changed, close_account, open_account};
 pub use give::Given;
 pub use house::House;
 pub use known::{is_closed, is_unknown, own_key};
-pub use reply::{Grant, Reply};
+pub use reply::{Grant, Granted};

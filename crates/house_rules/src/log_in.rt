@@ -9,11 +9,12 @@ use super::fresh::DRAWN;
 use super::give::Given;
 use super::house::House;
 use super::known::{is_closed, is_unknown, own_key};
-use super::reply::Reply;
-use parts::{Drawn, Fault, Login, check, is_lately, lowest};
+use super::reply::Granted;
+use parts::{Drawn, Fault, Login, check, lowest};
 
 impl House {
     // What is wrong with a login.
+    // An asking has these rows too, but others between them: one list would hide the order of the faults.
     fn judge_login<A: Accounts, D: Drawn>(
         &self,
         accounts: &A,
@@ -26,10 +27,7 @@ impl House {
         lowest(&[
             check(Fault::Unknown, is_unknown(accounts, reader)),
             check(Fault::AccountClosed, is_closed(accounts, reader)),
-            check(
-                Fault::NotLately,
-                !is_lately(self.side.now, self.side.lag, login.tick),
-            ),
+            check(Fault::NotLately, !self.side.clock().is_lately(login.tick)),
             check(Fault::NoDrawnBytes, drawn.count() < DRAWN),
             check(Fault::NotNow, self.side.waits()),
         ])
@@ -43,14 +41,14 @@ impl House {
         drawn: &mut D,
         reader: u16,
         login: Login,
-    ) -> Reply
+    ) -> Result<Granted, Fault>
         ensures { (es : List Entry) (j w : Bool) → LogsIn
             (home self.now (A.listed accounts.now) es j w (D.left drawn.old))
             reader login result
             (home self.now (A.listed accounts.now) es j w (D.left drawn.new)) }
     {
         if let Some(fault) = self.judge_login(accounts, drawn, reader, login) {
-            return Reply::Refused(fault);
+            return Err(fault);
         }
         let given = Given {
             service: 0,
@@ -60,6 +58,6 @@ impl House {
             own: self.key,
             under: own_key(accounts, reader),
         };
-        self.give(drawn, given)
+        Ok(self.give(drawn, given))
     }
 }

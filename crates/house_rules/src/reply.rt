@@ -1,7 +1,8 @@
-// What the house answers.
-use parts::{Fault, Letter, Lock, Number, Ticket};
+// What the house answers where it gives a ticket.
+use parts::{Letter, Lock, Number, Ticket};
 
 // A ticket given: to whom, for which service, the number of the login or asking, its tick, and until when the ticket is good.
+// Beside Given: what the book may know, and no key in it.
 #[derive(Clone, Copy)]
 pub struct Grant {
     pub reader: u16,
@@ -11,9 +12,10 @@ pub struct Grant {
     pub until: u64,
 }
 
-// A ticket and a letter go out; or it is refused, and nothing has changed.
+// A ticket and a letter go out.
 #[derive(Clone, Copy)]
-pub enum Reply {
-    Granted(Grant, Lock<Ticket>, Lock<Letter>),
-    Refused(Fault),
+pub struct Granted {
+    pub grant: Grant,
+    pub ticket: Lock<Ticket>,
+    pub letter: Lock<Letter>,
 }

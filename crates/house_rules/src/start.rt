@@ -10,6 +10,7 @@ use service_rules::{Memory, Side};
 
 impl House {
     // Starts the house at a tick with what is read of its memory.
+    // Four settings by themselves: they are told once, at the start.
     pub fn start<M: Memory>(
         life: u32,
         lag: u64,
@@ -22,10 +23,8 @@ impl House {
         if life == 0 || life > 86400 {
             return Err(Fault::OutOfRange);
         }
-        match Side::begin(0, lag, tick, memory) {
-            Ok(side) => Ok(House { side, life, key }),
-            Err(fault) => Err(fault),
-        }
+        let side = Side::begin(0, lag, tick, memory)?;
+        Ok(House { side, life, key })
     }
 
     // Tells it the tick.

@@ -5,6 +5,8 @@ use Rattle.parts.specs.Fault.{fault_number}
 use Rattle.parts.specs.declared.condition.Condition.{Condition}
 use Rattle.parts.specs.declared.fault.Fault.{Fault}
 use Rattle.std.proofs.lemmas.Bool.{and_parts, both_ways, leb-true}
+use Rattle.std.specs.List.{find}
+use Rattle.std.specs.Option.{option_map}
 use mathlib.Core.List.Memᴰ
 use mathlib.Core.List.{Memᴰ}
 
@@ -89,3 +91,13 @@ first_fault-last-none (c ∷ cs) ds e = by (first_fault-last-none cs ds) c.fails
     by : (first_fault cs ≡ None → first_fault (cs ++ ds) ≡ first_fault ds) → (b : Bool) → cond b (Some c.fault) (first_fault cs) ≡ None → cond b (Some c.fault) (first_fault (cs ++ ds)) ≡ first_fault ds
     by _ true e = cc
     by more false e = more e
+
+-- what `find` finds is the first
+pub first_by_find : (cs : List Condition) → option_map (λ (c : Condition). c.fault) (find (λ (c : Condition). c.fails) cs) ≡ first_fault cs
+unfolding first_fault
+first_by_find [] = refl
+first_by_find (c ∷ cs) = by c cs c.fails (first_by_find cs)
+  where
+    by : (d : Condition) (ds : List Condition) (b : Bool) → option_map (λ (c : Condition). c.fault) (find (λ (c : Condition). c.fails) ds) ≡ first_fault ds → option_map (λ (c : Condition). c.fault) (cond b (Some d) (find (λ (c : Condition). c.fails) ds)) ≡ cond b (Some d.fault) (first_fault ds)
+    by d ds true h = refl
+    by d ds false h = h

@@ -1,5 +1,5 @@
 -- The numbers of faults and of the classes that a refusal tells. Assumes nothing.
-use Rattle.std.specs.Prelude.{ℕ, Some, None, Option}
+use Rattle.std.specs.Prelude.{ℕ, cond, ◌==◌, Some, None, Ok, Err, Option, Result}
 use Rattle.parts.specs.declared.fault.Fault.{Fault}
 use Rattle.parts.specs.declared.fault.Fault.TheVariants.{Malformed, Unknown, LockFails, BadInside, AccountClosed, NotLately, TicketOver, DoneBefore, NoRoom, WrongService, NotUnderWay, NoDrawnBytes, OutOfRange, NotNow}
 use Rattle.parts.specs.declared.fault.Class.{Class}
@@ -44,3 +44,7 @@ abbrev pub class_number : Class → ℕ
 class_number NotReadable = 1
 class_number Later = 2
 class_number NotYou = 3
+
+-- the class of a byte in a refusal; any other byte is malformed
+abbrev pub class_from : ℕ → Result Class Fault
+class_from b = cond (b == 1) (Ok NotReadable) (cond (b == 2) (Ok Later) (cond (b == 3) (Ok NotYou) (Err Malformed)))

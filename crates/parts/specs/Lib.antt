@@ -2,3 +2,5 @@ pub mod Fault
 pub mod Tick
 pub mod Condition
 pub mod Drawn
+pub mod What
+pub mod Account

@@ -10,15 +10,20 @@ pub trait Drawn {
     fn count(&self) -> usize
         ensures { result ≡ length (left self.now) };
 
-    // Uses up the next 16.
-    fn take_16(&mut self) -> [u8; 16]
-        requires { 16 ≤ length (left self.old) }
-        ensures value { result ≡ take 16 (left self.old) }
-        ensures rest { left self.new ≡ drop 16 (left self.old) };
+    // Uses up as many as there is room for, and puts them there.
+    fn fill(&mut self, out: &mut [u8])
+        requires { length out.old ≤ length (left self.old) }
+        ensures value { out.new ≡ take (length out.old) (left self.old) }
+        ensures rest { left self.new ≡ drop (length out.old) (left self.old) };
+}
 
-    // Uses up the next 32.
-    fn take_32(&mut self) -> [u8; 32]
-        requires { 32 ≤ length (left self.old) }
-        ensures value { result ≡ take 32 (left self.old) }
-        ensures rest { left self.new ≡ drop 32 (left self.old) };
+// Uses up the next N bytes.
+pub fn take<const N: usize, D: Drawn>(drawn: &mut D) -> [u8; N]
+    requires { N ≤ length (D.left drawn.old) }
+    ensures value { result ≡ take N (D.left drawn.old) }
+    ensures rest { D.left drawn.new ≡ drop N (D.left drawn.old) }
+{
+    let mut bytes = [0; N];
+    drawn.fill(&mut bytes);
+    bytes
 }

@@ -1,46 +1,46 @@
 // Why something is refused: the faults, their numbers in the book, and the classes that a refusal tells.
-ghost use Rattle.parts.specs.Fault.{class_number, class_of, fault_number};
+ghost use Rattle.parts.specs.Fault.{class_from, class_number, class_of, fault_number};
 ghost use Rattle.std.specs.Prelude.{◌≡◌};
 
 // Each cause of a refusal.
 #[derive(Clone, Copy, PartialEq, Eq)]
 pub enum Fault {
     // an unknown kind of word, or a bad length
-    Malformed,
+    Malformed = 1,
     // a number that isn't there
-    Unknown,
+    Unknown = 2,
     // a lock that doesn't open
-    LockFails,
+    LockFails = 3,
     // what is inside a lock can't be read, or is of another kind
-    BadInside,
+    BadInside = 4,
     // an account that is closed
-    AccountClosed,
+    AccountClosed = 5,
     // a tick that isn't of lately
-    NotLately,
+    NotLately = 6,
     // a ticket that is over
-    TicketOver,
+    TicketOver = 7,
     // done before
-    DoneBefore,
+    DoneBefore = 8,
     // no room to remember
-    NoRoom,
+    NoRoom = 9,
     // a ticket or an asking for another service, or an asking for the house as a service
-    WrongService,
+    WrongService = 10,
     // a letter or a receipt for nothing that is under way
-    NotUnderWay,
+    NotUnderWay = 11,
     // drawn bytes used up
-    NoDrawnBytes,
+    NoDrawnBytes = 12,
     // settings or a tick out of range, a line or a file of accounts that can't be read
-    OutOfRange,
+    OutOfRange = 13,
     // it waits after a crash, or the device doesn't write
-    NotNow,
+    NotNow = 14,
 }
 
 // What a refusal tells the other side.
 #[derive(Clone, Copy, PartialEq, Eq)]
 pub enum Class {
-    NotReadable,
-    NotNow,
-    NotYou,
+    NotReadable = 1,
+    NotNow = 2,
+    NotYou = 3,
 }
 
 impl Fault {
@@ -48,22 +48,7 @@ impl Fault {
     pub fn number(self) -> u8
         ensures { result ≡ fault_number self }
     {
-        match self {
-            Fault::Malformed => 1,
-            Fault::Unknown => 2,
-            Fault::LockFails => 3,
-            Fault::BadInside => 4,
-            Fault::AccountClosed => 5,
-            Fault::NotLately => 6,
-            Fault::TicketOver => 7,
-            Fault::DoneBefore => 8,
-            Fault::NoRoom => 9,
-            Fault::WrongService => 10,
-            Fault::NotUnderWay => 11,
-            Fault::NoDrawnBytes => 12,
-            Fault::OutOfRange => 13,
-            Fault::NotNow => 14,
-        }
+        self as u8
     }
 
     // What a refusal for it tells the other side; none where it is answered by nothing.
@@ -93,10 +78,22 @@ impl Class {
     pub fn number(self) -> u8
         ensures { result ≡ class_number self }
     {
-        match self {
-            Class::NotReadable => 1,
-            Class::NotNow => 2,
-            Class::NotYou => 3,
+        self as u8
+    }
+}
+
+impl TryFrom<u8> for Class {
+    type Error = Fault;
+
+    ghost try_from_gives = { λ byte r. r ≡ class_from byte };
+
+    // The class that a byte stands for; a byte that stands for none makes a word malformed.
+    fn try_from(byte: u8) -> Result<Class, Fault> {
+        match byte {
+            1 => Ok(Class::NotReadable),
+            2 => Ok(Class::NotNow),
+            3 => Ok(Class::NotYou),
+            _ => Err(Fault::Malformed),
         }
     }
 }

@@ -8,11 +8,13 @@ mod fault;
 mod lock;
 mod tick;
 mod word;
+mod written;
 
 pub use account::{Account, Entry};
 pub use condition::{Condition, check, lowest};
-pub use drawn::Drawn;
+pub use drawn::{Drawn, take};
 pub use fault::{Class, Fault};
 pub use lock::Lock;
-pub use tick::{Ticked, is_lately, is_live, is_over, told};
+pub use tick::{Clock, Ticked, is_over, told};
 pub use word::{Asking, Key, Letter, Login, Number, Receipt, Salt, Ticket, What};
+pub use written::NotWritten;

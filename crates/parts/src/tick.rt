@@ -2,19 +2,36 @@
 ghost use Rattle.parts.specs.Tick.{clock, lately, live, over};
 ghost use Rattle.std.specs.Prelude.{◌≡◌};
 
-// What a side does when it is told a tick: it goes on to it, it refuses to go back, or it stops for good.
+// The tick now, and how far back a tick is still of lately.
 #[derive(Clone, Copy)]
+pub struct Clock {
+    pub tick: u64,
+    pub lag: u64,
+}
+
+impl Clock {
+    // Is a tick of lately: not above now, and at most lag below it?
+    pub fn is_lately(self, at: u64) -> bool
+        ensures { result ≡ lately self.tick self.lag at }
+    {
+        at <= self.tick && self.tick - at <= self.lag
+    }
+
+    // Is what was done at this tick still to be remembered?
+    pub fn is_live(self, at: u64) -> bool
+        ensures { result ≡ live self.tick self.lag at }
+    {
+        self.tick.saturating_sub(at) <= self.lag
+    }
+}
+
+// What a side does when it is told a tick: it goes on to it, it refuses to go back, or it stops for good.
+// It is no Result: a side answers with one of the three, and none of them is handed on as an error.
+#[derive(Clone, Copy, PartialEq, Eq)]
 pub enum Ticked {
     On,
     Back,
     Stopped,
-}
-
-// Is a tick of lately: not above now, and at most lag below it?
-pub fn is_lately(now: u64, lag: u64, tick: u64) -> bool
-    ensures { result ≡ lately now lag tick }
-{
-    tick <= now && now - tick <= lag
 }
 
 // Is a ticket over? It is still good at its until.
@@ -22,13 +39,6 @@ pub fn is_over(now: u64, until: u64) -> bool
     ensures { result ≡ over now until }
 {
     until < now
-}
-
-// Is what was done at this tick still to be remembered?
-pub fn is_live(now: u64, lag: u64, at: u64) -> bool
-    ensures { result ≡ live now lag at }
-{
-    now.saturating_sub(at) <= lag
 }
 
 // What a side at tick `now` does when it is told the tick `to`.

@@ -6,7 +6,7 @@
 -- after v t a d       what it is afterwards
 -- refusal r           the fault of an answer, if it is one
 -- Decides v t a d r w what is promised of a decision with answer r that leaves w
-use Rattle.std.specs.Prelude.{◌≡◌, ℕ, Bool, false, not, ◌&&◌, ◌||◌, List, [], ◌∷◌, ◌++◌, length, drop, Some, None, Option, ◌==◌, nat_le, nat_lt}
+use Rattle.std.specs.Prelude.{◌≡◌, ℕ, Bool, false, not, ◌&&◌, ◌||◌, List, [], ◌∷◌, ◌++◌, length, drop, Some, None, Ok, Err, Option, Result, ◌==◌, nat_le, nat_lt}
 use Rattle.parts.specs.Condition.{Lowest, first_fault, row, unless}
 use Rattle.parts.specs.Drawn.{salt_of}
 use Rattle.parts.specs.Tick.{lately, over}
@@ -19,9 +19,8 @@ use Rattle.parts.specs.declared.word.Asking.{Asking}
 use Rattle.parts.specs.declared.word.Receipt.{Receipt}
 use Rattle.parts.specs.declared.word.Ticket.{Ticket}
 use Rattle.service_rules.specs.Memory.{live_of, recorded, stands}
-use Rattle.service_rules.specs.declared.answer.Answer.{Answer}
-use Rattle.service_rules.specs.declared.answer.Answer.TheVariants.{Done, Refused}
 use Rattle.service_rules.specs.declared.answer.Deed.{Deed}
+use Rattle.service_rules.specs.declared.answer.Done.{Done}
 use Rattle.service_rules.specs.declared.side.Side.{Side}
 
 -- side: its number, lag, tick and until when it waits; kept: what it remembers; junk: what lies on its device
@@ -65,8 +64,15 @@ deed_of t a = record { reader = t.reader; number = a.number; what = a.what; aske
 abbrev pub receipt_of : View → Ticket → Asking → Lock Receipt
 receipt_of v t a = record { key = t.key; salt = salt_of v.left; inside = record { number = a.number } }
 
+-- it is done, and a receipt goes out; or it is refused
+abbrev pub Answer : Type 0
+Answer = Result Done Fault
+
+abbrev pub done : Deed → Lock Receipt → Answer
+done d r = Ok (record { deed = d; receipt = r })
+
 abbrev pub answered : View → Ticket → Asking → ℕ → Answer
-answered v t a d = unless (first_fault (conditions v t a d)) (Done (deed_of t a) (receipt_of v t a)) Refused
+answered v t a d = unless (first_fault (conditions v t a d)) (done (deed_of t a) (receipt_of v t a)) Err
 
 -- what is done is remembered and what is old is forgotten; 16 drawn bytes are used; the write mends the device
 abbrev pub done_by : View → ℕ → View
@@ -78,8 +84,8 @@ after v t a d = unless (first_fault (conditions v t a d)) (done_by v d) (λ _. v
 
 -- the fault of a refusal
 abbrev pub refusal : Answer → Option Fault
-refusal (Done d l) = None
-refusal (Refused f) = Some f
+refusal (Ok x) = None
+refusal (Err f) = Some f
 
 -- what is promised of a decision: its answer, what it leaves, and that no lower fault was there
 pub record Decides (v : View) (t : Ticket) (a : Asking) (d : ℕ) (r : Answer) (v' : View) : Type 0 where

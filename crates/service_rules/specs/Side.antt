@@ -4,11 +4,13 @@
 -- started n lag tick es j    a service, whose number is somebody's
 -- on_tick s to               a side that was told a tick
 -- waiting s                  it does nothing now
+-- clock_of s                 the tick now, and how far back a tick is of lately
 use Rattle.std.specs.Prelude.{ℕ, ◌+◌, ◌^◌, Bool, cond, ◌||◌, List, Ok, Err, Result, nat_le, nat_lt}
 use Rattle.parts.specs.Tick.{clock}
 use Rattle.parts.specs.declared.account.Entry.{Entry}
 use Rattle.parts.specs.declared.fault.Fault.{Fault}
 use Rattle.parts.specs.declared.fault.Fault.TheVariants.{OutOfRange}
+use Rattle.parts.specs.declared.tick.Clock.{Clock}
 use Rattle.parts.specs.declared.tick.Ticked.{Ticked}
 use Rattle.parts.specs.declared.tick.Ticked.TheVariants.{Back, On, Stopped}
 use Rattle.service_rules.specs.Memory.{highest}
@@ -34,6 +36,10 @@ set_tick s to Stopped = s
 
 abbrev pub on_tick : Side → ℕ → Side
 on_tick s to = set_tick s to (clock s.now to)
+
+-- the tick now, and how far back a tick is of lately
+abbrev pub clock_of : Side → Clock
+clock_of s = record { tick = s.now; lag = s.lag }
 
 abbrev pub waiting : Side → Bool
 waiting s = nat_lt s.now s.wake

@@ -1,5 +1,5 @@
-// What a service answers.
-use parts::{Fault, Lock, Number, Receipt, What};
+// What a service answers where it does as asked.
+use parts::{Lock, Number, Receipt, What};
 
 // A thing done: for whom, the asking's number, what, the tick at which it was asked, and until when the ticket is good.
 #[derive(Clone, Copy)]
@@ -11,9 +11,9 @@ pub struct Deed {
     pub until: u64,
 }
 
-// It is done, and a receipt goes out; or it is refused, and nothing has changed.
+// It is done, and a receipt goes out.
 #[derive(Clone, Copy)]
-pub enum Answer {
-    Done(Deed, Lock<Receipt>),
-    Refused(Fault),
+pub struct Done {
+    pub deed: Deed,
+    pub receipt: Lock<Receipt>,
 }

@@ -3,10 +3,10 @@ ghost use Rattle.parts.specs.Condition.{first_fault};
 ghost use Rattle.service_rules.specs.Service.{Decides, judged, nobody, view};
 ghost use Rattle.std.specs.Prelude.{◌≡◌};
 
-use super::answer::{Answer, Deed};
+use super::answer::{Deed, Done};
 use super::memory::{Memory, ROOM};
 use super::side::Side;
-use parts::{Asking, Drawn, Fault, Lock, Receipt, Salt, Ticket, check, is_lately, is_over, lowest};
+use parts::{Asking, Drawn, Fault, Lock, Receipt, Salt, Ticket, check, is_over, lowest, take};
 
 // Has nobody this number?
 pub fn is_nobody(number: u16) -> bool
@@ -27,16 +27,14 @@ impl Side {
     ) -> Option<Fault>
         ensures { result ≡ first_fault (judged self.entry.now (M.kept memory.now) (D.left drawn.now) ticket asking digest) }
     {
+        let clock = self.clock();
         let here = ticket.service == self.number && asking.service == self.number;
         lowest(&[
             check(Fault::Unknown, is_nobody(ticket.reader)),
-            check(
-                Fault::NotLately,
-                !is_lately(self.now, self.lag, asking.tick),
-            ),
+            check(Fault::NotLately, !clock.is_lately(asking.tick)),
             check(Fault::TicketOver, is_over(self.now, ticket.until)),
-            check(Fault::DoneBefore, memory.stands(digest, self.now, self.lag)),
-            check(Fault::NoRoom, memory.live(self.now, self.lag) >= ROOM),
+            check(Fault::DoneBefore, memory.stands(digest, clock)),
+            check(Fault::NoRoom, memory.live(clock) >= ROOM),
             check(Fault::WrongService, !here),
             check(Fault::NoDrawnBytes, drawn.count() < 16),
             check(Fault::NotNow, self.waits()),
@@ -51,7 +49,7 @@ impl Side {
         ticket: Ticket,
         asking: Asking,
         digest: u128,
-    ) -> Answer
+    ) -> Result<Done, Fault>
         ensures decides { Decides
             (view self.entry.now (M.kept memory.old) (M.junk memory.old) (M.writes memory.new) (D.left drawn.old))
             ticket asking digest result
@@ -59,11 +57,9 @@ impl Side {
         ensures keeps { M.keeps memory.old memory.new }
     {
         if let Some(fault) = self.judge(memory, drawn, ticket, asking, digest) {
-            return Answer::Refused(fault);
+            return Err(fault);
         }
-        if !memory.record(digest, self.now, self.lag) {
-            return Answer::Refused(Fault::NotNow);
-        }
+        memory.record(digest, self.clock())?;
         let deed = Deed {
             reader: ticket.reader,
             number: asking.number,
@@ -71,16 +67,13 @@ impl Side {
             asked: asking.tick,
             until: ticket.until,
         };
-        let salt = Salt(drawn.take_16());
-        Answer::Done(
-            deed,
-            Lock {
-                key: ticket.key,
-                salt,
-                inside: Receipt {
-                    number: asking.number,
-                },
+        let receipt = Lock {
+            key: ticket.key,
+            salt: Salt(take(drawn)),
+            inside: Receipt {
+                number: asking.number,
             },
-        )
+        };
+        Ok(Done { deed, receipt })
     }
 }

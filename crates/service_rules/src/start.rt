@@ -1,15 +1,16 @@
 // Starting, after a crash as well as for the first time, and going on in time.
 ghost use Rattle.parts.specs.Tick.{clock};
-ghost use Rattle.service_rules.specs.Side.{begun, on_tick, started, waiting};
+ghost use Rattle.service_rules.specs.Side.{begun, clock_of, on_tick, started, waiting};
 ghost use Rattle.std.specs.Prelude.{◌≡◌};
 
 use super::decide::is_nobody;
 use super::memory::Memory;
 use super::side::Side;
-use parts::{Fault, Ticked, told};
+use parts::{Clock, Fault, Ticked, told};
 
 impl Side {
     // Starts a side at a tick with what is read of its memory. If something there is junk it waits for lag + 1 ticks.
+    // Here and in `start` a side's settings come by themselves; `start` adds the test of the number alone.
     pub fn begin<M: Memory>(number: u16, lag: u64, tick: u64, memory: &M) -> Result<Side, Fault>
         ensures { result ≡ begun number lag tick (M.kept memory.now) (M.junk memory.now) }
     {
@@ -41,10 +42,20 @@ impl Side {
         ensures after { self.new ≡ on_tick self.old to }
     {
         let ticked = told(self.now, to);
-        if let Ticked::On = ticked {
+        if ticked == Ticked::On {
             self.now = to;
         }
         ticked
+    }
+
+    // The tick now, and how far back a tick is of lately.
+    pub fn clock(&self) -> Clock
+        ensures { result ≡ clock_of self.entry.now }
+    {
+        Clock {
+            tick: self.now,
+            lag: self.lag,
+        }
     }
 
     // Does it do nothing now?

@@ -1,6 +1,7 @@
 use Rattle.house_rules.proofs.Decided.{login-drawn, login-granted, login-refused}
 use Rattle.house_rules.proofs.house.House.log_in.Goals as goal
 use Rattle.house_rules.specs.House.{home}
+use Rattle.std.proofs.Common.{ap, Ok}
 
 pub returns-in-Some : goal.returns-in-Some
 returns-in-Some g c =
@@ -12,4 +13,4 @@ give-requires g c =
 
 pub returns : goal.returns
 returns g c =
-    λ es j w. login-granted c.args.self.now (g.A.Accounts.listed c.args.accounts.now) es j w (g.D.Drawn.left c.args.drawn.now) _ c.args.reader c.args.login c.give.result c.own_key.result c.in_default.ensures c.own_key.ensures c.give.ensures.value c.give.ensures.rest
+    λ es j w. login-granted c.args.self.now (g.A.Accounts.listed c.args.accounts.now) es j w (g.D.Drawn.left c.args.drawn.now) _ c.args.reader c.args.login (Ok c.give.result) c.own_key.result c.in_default.ensures c.own_key.ensures (ap Ok c.give.ensures.value) c.give.ensures.rest
