@@ -1,4 +1,3 @@
 pub mod Tables
-pub mod Tried
 pub mod Wanted
 pub mod Taken

@@ -1,37 +1,44 @@
--- The oldest of a table, from its end. Assumes nothing.
-use Rattle.std.proofs.Common.{◌≡◌, ℕ, zero, suc, ◌+◌, ◌-◌, ◌<◌, ◌≤◌, Bool, true, false, cond, List, [], ◌∷◌, length, get_or, drop, Some, None, Option, sym, ap, ◌∙◌, arith}
+-- What a search or a chain over a table gives, as the recursions over its rows say it. Assumes nothing.
+use Rattle.std.proofs.Common.{◌≡◌, ℕ, Bool, true, false, cond, eqb, List, [], ◌∷◌, reverse, Some, None, Option, refl, ap, ◌∙◌}
+use Rattle.box_rules.specs.Chest.{ticket_of}
+use Rattle.box_rules.specs.Line.{pass_of}
 use Rattle.box_rules.specs.Table.{matches, older, oldest}
+use Rattle.box_rules.specs.declared.line.Held.{Held}
 use Rattle.box_rules.specs.declared.line.Pending.{Pending}
 use Rattle.box_rules.specs.declared.line.Sought.{Sought}
-use Rattle.std.proofs.lemmas.List.{at_drop_more}
+use Rattle.std.proofs.lemmas.Grind.{reverse_onto}
+use Rattle.std.proofs.lemmas.List.Folds.{find-append}
+use Rattle.std.specs.List.{find}
+use Rattle.std.specs.Option.{option_map, option_or}
 
--- what is found behind is the oldest of all
-pub oldest-drop : (s : Sought) (xs : List Pending) (i : ℕ) (p : Pending) → oldest s (drop i xs) ≡ Some p → oldest s xs ≡ Some p
-oldest-drop s xs zero p e = e
-oldest-drop s [] (suc i) p e = e
-oldest-drop s (x ∷ xs) (suc i) p e =
-    ap (λ (o : Option Pending). older o (cond (matches s x) (Some x) None)) (oldest-drop s xs i p e)
+abbrev with_id : {T : Type 0} → ℕ → Held T → Bool
+with_id i h = eqb h.pass.id i
 
--- one more, at the place before i
-before : (s : Sought) (xs : List Pending) (i : ℕ) (d : Pending) (b : Bool) → 0 < i → i ≤ length xs → oldest s (drop i xs) ≡ None → matches s (get_or xs (i - 1) d) ≡ b →
-    oldest s (drop (i - 1) xs) ≡ cond b (Some (get_or xs (i - 1) d)) None
-before s xs i d b h k e m =
-    let n : (i - 1) + 1 ≡ i = omega arith in
-    let x : Pending = get_or xs (i - 1) d in
-    at_drop_more (oldest s) xs (i - 1) d (omega arith)
-    ∙ ap (λ (j : ℕ). older (oldest s (drop j xs)) (cond (matches s x) (Some x) None)) n
-    ∙ ap (λ (o : Option Pending). older o (cond (matches s x) (Some x) None)) e
-    ∙ ap (λ (c : Bool). cond c (Some x) None) m
+pub pass-found : {T : Type 0} (i : ℕ) (hs : List (Held T)) → option_map (λ (h : Held T). h.pass) (find (with_id i) hs) ≡ pass_of i hs
+pass-found i [] = refl
+pass-found {T} i (h ∷ hs) = by (with_id i h) (pass-found i hs)
+  where
+    by : (b : Bool) → option_map (λ (x : Held T). x.pass) (find (with_id i) hs) ≡ pass_of i hs → option_map (λ (x : Held T). x.pass) (cond b (Some h) (find (with_id i) hs)) ≡ cond b (Some h.pass) (pass_of i hs)
+    by true e = refl
+    by false e = e
 
--- this one matches, and none behind it
-pub oldest-here : (s : Sought) (xs : List Pending) (i : ℕ) (d : Pending) → 0 < i → i ≤ length xs → oldest s (drop i xs) ≡ None → matches s (get_or xs (i - 1) d) ≡ true →
-    Some (get_or xs (i - 1) d) ≡ oldest s xs
-oldest-here s xs i d h k e m = sym (oldest-drop s xs (i - 1) (get_or xs (i - 1) d) (before s xs i d true h k e m))
+pub ticket-found : {T : Type 0} (i : ℕ) (hs : List (Held T)) → option_map (λ (h : Held T). h.ticket) (find (with_id i) hs) ≡ ticket_of i hs
+ticket-found i [] = refl
+ticket-found {T} i (h ∷ hs) = by (with_id i h) (ticket-found i hs)
+  where
+    by : (b : Bool) → option_map (λ (x : Held T). x.ticket) (find (with_id i) hs) ≡ ticket_of i hs → option_map (λ (x : Held T). x.ticket) (cond b (Some h) (find (with_id i) hs)) ≡ cond b (Some h.ticket) (ticket_of i hs)
+    by true e = refl
+    by false e = e
 
--- none so far
-pub oldest-none : (s : Sought) (xs : List Pending) (i : ℕ) (d : Pending) → 0 < i → i ≤ length xs → oldest s (drop i xs) ≡ None → matches s (get_or xs (i - 1) d) ≡ false →
-    oldest s (drop (i - 1) xs) ≡ None
-oldest-none s xs i d h k e m = before s xs i d false h k e m
-
-abbrev pub nobodys : Pending
-nobodys = record { number = record { 0 = [] }; key = record { 0 = [] }; asks = 0; line = record { place = 0; service = 0; what = record { len = 0; bytes = [] }; tick = 0 } }
+-- the first from the end is the oldest
+pub oldest-found : (s : Sought) (xs : List Pending) → find (matches s) (reverse xs) ≡ oldest s xs
+oldest-found s [] = refl
+oldest-found s (x ∷ xs) =
+    ap (find (matches s)) (reverse_onto xs x [])
+    ∙ find-append (matches s) (reverse xs) (x ∷ [])
+    ∙ same (find (matches s) (reverse xs))
+    ∙ ap (λ (o : Option Pending). older o (cond (matches s x) (Some x) None)) (oldest-found s xs)
+  where
+    same : (o : Option Pending) → option_or o (cond (matches s x) (Some x) None) ≡ older o (cond (matches s x) (Some x) None)
+    same None = refl
+    same (Some y) = refl

@@ -4,7 +4,7 @@
 -- asked b k v l         the box that asked v under k for line l; asking_of: what it sent
 -- ticket_of i hs        the ticket with that id
 -- Starts                what is promised of a start; box_on_tick: a box that was told a tick
-use Rattle.std.specs.Prelude.{◌≡◌, ℕ, ◌/◌, ◌%◌, ◌^◌, Bool, true, false, cond, not, ◌||◌, List, [], ◌∷◌, drop, replicate, Some, None, Ok, Err, vec_items, Option, Result, ◌==◌, nat_le, nat_lt, slice_set}
+use Rattle.std.specs.Prelude.{◌≡◌, ℕ, ◌/◌, ◌%◌, ◌^◌, Bool, true, false, cond, not, ◌||◌, List, [], ◌∷◌, drop, replicate, Some, None, Ok, Err, Option, Result, ◌==◌, nat_le, nat_lt, slice_set}
 use Rattle.box_rules.specs.Table.{put}
 use Rattle.box_rules.specs.declared.chest.Chest.{Chest}
 use Rattle.box_rules.specs.declared.line.Held.{Held}
@@ -40,9 +40,9 @@ boxed c bs = record {
   now = c.now;
   lines = c.lines;
   taken = c.taken;
-  logins = vec_items c.logins;
-  tickets = vec_items c.tickets;
-  askings = vec_items c.askings;
+  logins = c.logins;
+  tickets = c.tickets;
+  askings = c.askings;
   left = bs;
 }
 

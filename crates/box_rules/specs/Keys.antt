@@ -10,23 +10,22 @@ use Rattle.box_rules.specs.declared.line.Held.{Held}
 use Rattle.box_rules.specs.declared.line.Pending.{Pending}
 use Rattle.parts.specs.declared.word.Key.{Key}
 use Rattle.std.specs.Str.{bytes_eq}
-use Rattle.std.specs.Prelude.{Bool, false, cond, not, ◌&&◌, ◌||◌, List, [], ◌∷◌, ◌++◌, ◌==◌}
+use Rattle.std.specs.List.{list_any}
+use Rattle.std.specs.Prelude.{Bool, not, ◌&&◌, List, ◌∷◌, ◌++◌, map, filter, reverse, ◌==◌}
 
 abbrev pub is_house : {T : Type 0} → Held T → Bool
 is_house h = h.pass.service == 0
 
 -- the keys of those that pass a test, the oldest first
 abbrev pub from_end : {X : Type 0} → (X → Bool) → (X → Key) → List X → List Key
-from_end f k [] = []
-from_end f k (x ∷ xs) = from_end f k xs ++ cond (f x) (k x ∷ []) []
+from_end f k xs = map k (filter f (reverse xs))
 
 abbrev pub house_keys : {T : Type 0} → List (Held T) → List Key
 house_keys hs = from_end is_house (λ h. h.pass.key) hs
 
 -- a house ticket with this key is held
 abbrev pub holds : {T : Type 0} → Key → List (Held T) → Bool
-holds k [] = false
-holds k (h ∷ hs) = (is_house h && bytes_eq h.pass.key.0 k.0) || holds k hs
+holds k hs = list_any (λ h. is_house h && bytes_eq h.pass.key.0 k.0) hs
 
 abbrev pub is_stray : {T : Type 0} → List (Held T) → Pending → Bool
 is_stray hs p = p.asks == 0 && not (holds p.key hs)

@@ -3,13 +3,12 @@
 -- pending_for b u l        what a letter belongs to, by the key under which it opened
 -- letter_conditions b u l  all that can be wrong with it
 -- taken b u l              what it answers; taken_after: what it is afterwards
--- lineFor b k r            the place of the line that a receipt belongs to
-use Rattle.std.specs.Prelude.{◌≡◌, ℕ, ◌+◌, ◌-◌, ◌^◌, cond, not, List, [], ◌∷◌, length, is_some, Some, None, Option, ◌==◌, nat_le, nat_lt}
+-- confirmed xs k r         what it answers to a receipt: the place of the line that it belongs to
+use Rattle.std.specs.Prelude.{◌≡◌, ℕ, ◌+◌, ◌-◌, ◌^◌, cond, not, List, [], ◌∷◌, length, is_some, Some, None, Ok, Err, Option, ◌==◌, nat_le, nat_lt}
 use Rattle.box_rules.specs.Chest.{Boxed, asked, asking_of}
-use Rattle.box_rules.specs.Line.{wrong}
+use Rattle.box_rules.specs.Line.{Told, wrong}
 use Rattle.box_rules.specs.Table.{oldest, put, without}
-use Rattle.box_rules.specs.declared.answer.Answer.{Answer}
-use Rattle.box_rules.specs.declared.answer.Answer.TheVariants.{Receipt as Confirms, Takes, Wrong}
+use Rattle.box_rules.specs.declared.answer.Answer.TheVariants.{Receipt as Confirms, Takes}
 use Rattle.box_rules.specs.declared.line.Pending.{Pending}
 use Rattle.box_rules.specs.declared.line.Sought.TheVariants.{AtHouse, AtService, Login}
 use Rattle.box_rules.specs.declared.line.Under.{Under}
@@ -77,31 +76,31 @@ stored b l t = record {
 }
 
 -- then whom the ticket is for is asked, for the same line
-abbrev pub taken_by : {T : Type 0} → Boxed T → Letter → Option Pending → Answer
-taken_by b l None = Wrong NotUnderWay
+abbrev pub taken_by : {T : Type 0} → Boxed T → Letter → Option Pending → Told
+taken_by b l None = Err NotUnderWay
 taken_by b l (Some p) =
-    Takes (record { id = b.taken + 1; service = l.service; until = l.until }) (asking_of b l.key l.service p.line)
+    Ok (Takes (record { id = b.taken + 1; service = l.service; until = l.until }) (asking_of b l.key l.service p.line))
 
 abbrev pub taken_from : {T : Type 0} → Boxed T → Under → Letter → T → Option Pending → Boxed T
 taken_from b u l t None = b
 taken_from b u l t (Some p) = asked (stored (settled b u l) l t) l.key l.service p.line
 
-abbrev pub taken : {T : Type 0} → Boxed T → Under → Letter → Answer
-taken b u l = unless (first_fault (letter_conditions b u l)) (taken_by b l (pending_for b u l)) Wrong
+abbrev pub taken : {T : Type 0} → Boxed T → Under → Letter → Told
+taken b u l = unless (first_fault (letter_conditions b u l)) (taken_by b l (pending_for b u l)) Err
 
 abbrev pub taken_after : {T : Type 0} → Boxed T → Under → Letter → T → Boxed T
 taken_after b u l t = unless (first_fault (letter_conditions b u l)) (taken_from b u l t (pending_for b u l)) (λ _. b)
 
 -- what is promised of a letter: the answer, what is left, and that no lower fault was there
-pub record TakesLetter {T : Type 0} (b : Boxed T) (u : Under) (l : Letter) (t : T) (r : Answer) (b' : Boxed T) : Type 0 where
+pub record TakesLetter {T : Type 0} (b : Boxed T) (u : Under) (l : Letter) (t : T) (r : Told) (b' : Boxed T) : Type 0 where
   pub answer : r ≡ taken b u l
   pub after : b' ≡ taken_after b u l t
   pub lowest : Lowest (letter_conditions b u l) (wrong r)
 
 -- a receipt belongs to the oldest asking to a service with its key and number
-abbrev pub shown_for : Option Pending → Answer
-shown_for None = Wrong NotUnderWay
-shown_for (Some p) = Confirms p.line.place
+abbrev pub shown_for : Option Pending → Told
+shown_for None = Err NotUnderWay
+shown_for (Some p) = Ok (Confirms p.line.place)
 
-abbrev pub confirmed : List Pending → Key → Receipt → Answer
+abbrev pub confirmed : List Pending → Key → Receipt → Told
 confirmed xs k r = shown_for (oldest (AtService k r.number) xs)

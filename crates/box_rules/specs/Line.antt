@@ -4,12 +4,13 @@
 -- line_conditions ..     all that can be wrong with a line that is in range, the lowest number first
 -- wanted b v by w        what it answers to a line for service v, by that ticket or by none, with these words
 -- wanted_after b v by w  what it is afterwards
--- wrong r                the fault of an answer, if it is one
-use Rattle.std.specs.Prelude.{◌≡◌, ℕ, ◌+◌, ◌-◌, ◌^◌, Bool, false, cond, not, ◌&&◌, ◌||◌, List, [], ◌∷◌, length, drop, is_some, Some, None, Option, ◌==◌, nat_lt}
+-- Told                   an answer, or what is wrong
+-- wrong r                what is wrong, if something is
+use Rattle.std.specs.Prelude.{◌≡◌, ℕ, ◌+◌, ◌-◌, ◌^◌, Bool, false, cond, not, ◌&&◌, ◌||◌, List, [], ◌∷◌, length, drop, is_some, Some, None, Ok, Err, Option, Result, ◌==◌, nat_lt}
 use Rattle.box_rules.specs.Chest.{Boxed, asked, asking_of}
 use Rattle.box_rules.specs.Table.{put}
 use Rattle.box_rules.specs.declared.answer.Answer.{Answer}
-use Rattle.box_rules.specs.declared.answer.Answer.TheVariants.{Asks, LogsIn, Receipt, Shown, Takes, Wrong}
+use Rattle.box_rules.specs.declared.answer.Answer.TheVariants.{Asks, LogsIn}
 use Rattle.box_rules.specs.declared.line.Held.{Held}
 use Rattle.box_rules.specs.declared.line.Line.{Line}
 use Rattle.box_rules.specs.declared.line.Pass.{Pass}
@@ -100,35 +101,35 @@ logged_in b l = record {
   left = drop 32 b.left;
 }
 
+-- what is told: an answer, or what is wrong
+abbrev pub Told : Type 0
+Told = Result Answer Fault
+
 -- by no ticket it logs in; by one it asks whom the ticket is for
-abbrev pub sent_by : {T : Type 0} → Boxed T → Option Pass → Line → Answer
-sent_by b None l = LogsIn (login_of b)
-sent_by b (Some p) l = Asks p.id (asking_of b p.key p.service l)
+abbrev pub sent_by : {T : Type 0} → Boxed T → Option Pass → Line → Told
+sent_by b None l = Ok (LogsIn (login_of b))
+sent_by b (Some p) l = Ok (Asks p.id (asking_of b p.key p.service l))
 
 abbrev pub sent_after : {T : Type 0} → Boxed T → Option Pass → Line → Boxed T
 sent_after b None l = logged_in (counted b) l
 sent_after b (Some p) l = asked (counted b) p.key p.service l
 
-abbrev pub wanted : {T : Type 0} → Boxed T → ℕ → Option ℕ → What → Answer
+abbrev pub wanted : {T : Type 0} → Boxed T → ℕ → Option ℕ → What → Told
 wanted b v by w =
-    cond (unread b.lines v w) (Wrong OutOfRange)
-    (unless (first_fault (line_conditions b v by)) (sent_by b (pass_by by b.tickets) (line_of b v w)) Wrong)
+    cond (unread b.lines v w) (Err OutOfRange)
+    (unless (first_fault (line_conditions b v by)) (sent_by b (pass_by by b.tickets) (line_of b v w)) Err)
 
 abbrev pub wanted_after : {T : Type 0} → Boxed T → ℕ → Option ℕ → What → Boxed T
 wanted_after b v by w =
     cond (unread b.lines v w) b
     (unless (first_fault (line_conditions b v by)) (sent_after b (pass_by by b.tickets) (line_of b v w)) (λ _. b))
 
-abbrev pub wrong : Answer → Option Fault
-wrong (LogsIn l) = None
-wrong (Asks i l) = None
-wrong (Takes g l) = None
-wrong (Receipt n) = None
-wrong (Shown c) = None
-wrong (Wrong f) = Some f
+abbrev pub wrong : Told → Option Fault
+wrong (Ok a) = None
+wrong (Err f) = Some f
 
 -- what is promised of a line: the answer, what is left, and that no lower fault was there
-pub record Wants {T : Type 0} (b : Boxed T) (v : ℕ) (by : Option ℕ) (w : What) (r : Answer) (b' : Boxed T) : Type 0 where
+pub record Wants {T : Type 0} (b : Boxed T) (v : ℕ) (by : Option ℕ) (w : What) (r : Told) (b' : Boxed T) : Type 0 where
   pub answer : r ≡ wanted b v by w
   pub after : b' ≡ wanted_after b v by w
   pub lowest : unread b.lines v w ≡ false → Lowest (line_conditions b v by) (wrong r)

@@ -1,7 +1,11 @@
-// What a box answers.
-use parts::{Asking, Class, Fault, Lock, Login};
+// What a box answers where nothing is wrong, and why a box does not start.
+ghost use Rattle.box_rules.specs.declared.answer.NotStarted.TheVariants.{NoMemory};
+ghost use Rattle.std.specs.Prelude.{◌≡◌};
 
-// A ticket taken: its id, for which service, and until when.
+use parts::{Asking, Class, Fault, Lock, Login};
+use std::alloc::AllocError;
+
+// A ticket taken: its id, for which service, and until when. It is no Pass, since the key is not shown.
 #[derive(Clone, Copy)]
 pub struct Got {
     pub id: u64,
@@ -9,7 +13,7 @@ pub struct Got {
     pub until: u64,
 }
 
-// What is sent or shown, or what is wrong. An asking goes with the ticket of that id.
+// What is sent or shown. An asking goes with the ticket of that id.
 #[derive(Clone, Copy)]
 pub enum Answer {
     LogsIn(Lock<Login>),
@@ -17,7 +21,6 @@ pub enum Answer {
     Takes(Got, Lock<Asking>),
     Receipt(u64),
     Shown(Class),
-    Wrong(Fault),
 }
 
 // Why a box does not start: its settings are out of range, or there is no memory.
@@ -25,4 +28,12 @@ pub enum Answer {
 pub enum NotStarted {
     Wrong(Fault),
     NoMemory,
+}
+
+impl From<AllocError> for NotStarted {
+    ghost from_gives = { λ _ e. e ≡ NoMemory };
+
+    fn from(_: AllocError) -> NotStarted {
+        NotStarted::NoMemory
+    }
 }

@@ -6,8 +6,7 @@ ghost use Rattle.parts.specs.Drawn.{number_of, salt_of};
 
 use super::chest::Chest;
 use super::line::{Line, Pending};
-use super::table::put;
-use parts::{Asking, Drawn, Key, Lock, Login, Number, Salt, What};
+use parts::{Asking, Drawn, Key, Lock, Login, Number, Salt, What, take};
 
 // How many bytes a login or an asking draws.
 pub(crate) const DRAWN: usize = 32;
@@ -19,8 +18,8 @@ fn draw<D: Drawn>(drawn: &mut D) -> (Number, Salt)
     ensures salt { result.1 ≡ salt_of (drop 16 (D.left drawn.old)) }
     ensures rest { D.left drawn.new ≡ drop 32 (D.left drawn.old) }
 {
-    let number = Number(drawn.take_16());
-    let salt = Salt(drawn.take_16());
+    let number = Number(take(drawn));
+    let salt = Salt(take(drawn));
     (number, salt)
 }
 
@@ -28,95 +27,81 @@ fn draw<D: Drawn>(drawn: &mut D) -> (Number, Salt)
 fn two_bytes(service: u16) -> What
     ensures { result ≡ two_bytes service }
 {
-    let mut bytes = [0u8; 1024];
-    bytes[0] = (service / 256) as u8;
-    bytes[1] = (service % 256) as u8;
-    What { len: 2, bytes }
+    What::new(&service.to_be_bytes())
 }
 
-// What is asked: of the house the line's service, of a service what the line says.
-fn what_of(asks: u16, line: Line) -> What
-    ensures { result ≡ what_of asks line }
-{
-    if asks == 0 {
-        two_bytes(line.service)
-    } else {
-        line.what
+impl Line {
+    // What is asked: of the house the line's service, of a service what the line says.
+    fn what_for(self, asks: u16) -> What
+        ensures { result ≡ what_of asks self }
+    {
+        if asks == 0 {
+            two_bytes(self.service)
+        } else {
+            self.what
+        }
+    }
+
+    // The tick of an asking: to the house that of sending, to a service that of the line.
+    fn tick_for(self, asks: u16, sent: u64) -> u64
+        ensures { result ≡ tick_of sent asks self }
+    {
+        if asks == 0 { sent } else { self.tick }
     }
 }
 
-// The tick of an asking: to the house that of sending, to a service that of the line.
-fn tick_of(sent: u64, asks: u16, line: Line) -> u64
-    ensures { result ≡ tick_of sent asks line }
-{
-    if asks == 0 { sent } else { line.tick }
-}
-
 impl<T: Drop> Chest<T> {
-    // Logs in for a line.
-    pub(crate) fn log_in<D: Drawn>(mut self, drawn: &mut D, line: Line) -> (Chest<T>, Lock<Login>)
+    // Logs in for a line. It is no case of `ask`, since its table and the inside of its lock are others.
+    pub(crate) fn log_in<D: Drawn>(&mut self, drawn: &mut D, line: Line) -> Lock<Login>
         requires { 32 ≤ length (D.left drawn.old) }
-        ensures sent { result.1 ≡ login_of (boxed self (D.left drawn.old)) }
-        ensures after { boxed result.0 (D.left drawn.new) ≡ logged_in (boxed self (D.left drawn.old)) line }
+        ensures sent { result ≡ login_of (boxed self.old (D.left drawn.old)) }
+        ensures after { boxed self.new (D.left drawn.new) ≡ logged_in (boxed self.old (D.left drawn.old)) line }
     {
         let (number, salt) = draw(drawn);
-        let key = self.key;
-        let tick = self.now;
-        put(
-            &mut self.logins,
-            Pending {
+        self.logins.put(Pending {
+            number,
+            key: self.key,
+            asks: 0,
+            line,
+        });
+        Lock {
+            key: self.key,
+            salt,
+            inside: Login {
                 number,
-                key,
-                asks: 0,
-                line,
+                tick: self.now,
             },
-        );
-        (
-            self,
-            Lock {
-                key,
-                salt,
-                inside: Login { number, tick },
-            },
-        )
+        }
     }
 
     // Asks the house or a service under a key, for a line.
     pub(crate) fn ask<D: Drawn>(
-        mut self,
+        &mut self,
         drawn: &mut D,
         key: Key,
         asks: u16,
         line: Line,
-    ) -> (Chest<T>, Lock<Asking>)
+    ) -> Lock<Asking>
         requires { 32 ≤ length (D.left drawn.old) }
-        ensures sent { result.1 ≡ asking_of (boxed self (D.left drawn.old)) key asks line }
-        ensures after { boxed result.0 (D.left drawn.new) ≡ asked (boxed self (D.left drawn.old)) key asks line }
+        ensures sent { result ≡ asking_of (boxed self.old (D.left drawn.old)) key asks line }
+        ensures after { boxed self.new (D.left drawn.new) ≡ asked (boxed self.old (D.left drawn.old)) key asks line }
     {
         let (number, salt) = draw(drawn);
-        let what = what_of(asks, line);
-        let tick = tick_of(self.now, asks, line);
-        put(
-            &mut self.askings,
-            Pending {
+        self.askings.put(Pending {
+            number,
+            key,
+            asks,
+            line,
+        });
+        Lock {
+            key,
+            salt,
+            inside: Asking {
+                service: asks,
                 number,
-                key,
-                asks,
-                line,
+                what: line.what_for(asks),
+                tick: line.tick_for(asks, self.now),
             },
-        );
-        (
-            self,
-            Lock {
-                key,
-                salt,
-                inside: Asking {
-                    service: asks,
-                    number,
-                    what,
-                    tick,
-                },
-            },
-        )
+        }
     }
 }

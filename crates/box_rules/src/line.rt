@@ -11,7 +11,7 @@ pub struct Line {
 }
 
 // A login or an asking under way: its number, the key it is under, whom it asks (0, the house, or a service), and for
-// which line.
+// which line. Whom it asks is a number, since 0 is the number of the house on the line.
 #[derive(Clone, Copy)]
 pub struct Pending {
     pub number: Number,
@@ -36,7 +36,8 @@ pub struct Held<T> {
     pub ticket: T,
 }
 
-// The key under which a letter opened: the own key, or one of a ticket.
+// The key under which a letter opened: the own key, or one of a ticket. It is no Option of a key, since the own key is
+// a key too.
 #[derive(Clone, Copy)]
 pub enum Under {
     Own,
@@ -44,7 +45,8 @@ pub enum Under {
 }
 
 // What is looked for among what is under way: a login by its number, an asking for the house by key, number and the
-// service asked for, or an asking to a service by key and number.
+// service asked for, or an asking to a service by key and number. It is no closure, since what is promised of a letter
+// names it.
 #[derive(Clone, Copy)]
 pub enum Sought {
     Login(Number),

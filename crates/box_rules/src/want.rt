@@ -1,6 +1,6 @@
 // A line of the reader.
 ghost use Rattle.box_rules.specs.Chest.{boxed};
-ghost use Rattle.box_rules.specs.Line.{Wants, gone, line_judged, misfit, pass_by, pass_of, pass_over, unread};
+ghost use Rattle.box_rules.specs.Line.{Wants, gone, line_judged, misfit, pass_by, pass_over, unread};
 ghost use Rattle.parts.specs.Condition.{first_fault};
 ghost use Rattle.std.specs.Prelude.{◌≡◌};
 
@@ -8,29 +8,8 @@ use super::answer::Answer;
 use super::ask::DRAWN;
 use super::chest::Chest;
 use super::line::{Held, Line, Pass};
+use super::table::Table;
 use parts::{Drawn, Fault, What, check, is_over, lowest};
-
-// What is known of the ticket with this id.
-fn pass_in<T>(tickets: &[Held<T>], id: u64) -> Option<Pass>
-    ensures { result ≡ pass_of id tickets.now }
-{
-    for ticket in tickets {
-        if ticket.pass.id == id {
-            return Some(ticket.pass);
-        }
-    }
-    None
-}
-
-// What is known of the ticket that a line names, if it names one that is held.
-fn pass_by<T>(tickets: &[Held<T>], by: Option<u64>) -> Option<Pass>
-    ensures { result ≡ pass_by by tickets.now }
-{
-    match by {
-        None => None,
-        Some(id) => pass_in(tickets, id),
-    }
-}
 
 // Is the line out of range, or has its place no number any more?
 fn is_unread(lines: u64, service: u16, what: &What) -> bool
@@ -43,30 +22,25 @@ fn is_unread(lines: u64, service: u16, what: &What) -> bool
 fn is_gone(by: Option<u64>, pass: Option<Pass>) -> bool
     ensures { result ≡ gone by pass }
 {
-    by.is_some() && !pass.is_some()
+    by.is_some() && pass.is_none()
 }
 
 // Is the ticket over?
 fn is_pass_over(tick: u64, pass: Option<Pass>) -> bool
     ensures { result ≡ pass_over tick pass }
 {
-    match pass {
-        None => false,
-        Some(pass) => is_over(tick, pass.until),
-    }
+    pass.is_some_and(|pass| is_over(tick, pass.until))
 }
 
 // Is the ticket neither for the house nor for that service?
 fn is_misfit(service: u16, pass: Option<Pass>) -> bool
     ensures { result ≡ misfit service pass }
 {
-    match pass {
-        None => false,
-        Some(pass) => !(pass.service == 0 || pass.service == service),
-    }
+    pass.is_some_and(|pass| !(pass.service == 0 || pass.service == service))
 }
 
 // What is wrong with a line that is in range.
+// Here and in `want` what a line names comes by itself: what is promised of a line names each.
 fn judge_line<D: Drawn>(
     tick: u64,
     drawn: &D,
@@ -85,23 +59,32 @@ fn judge_line<D: Drawn>(
     ])
 }
 
+impl<T> Table<Held<T>> {
+    // What is known of the ticket that a line names, if it names one that is held.
+    fn pass_by(&self, by: Option<u64>) -> Option<Pass>
+        ensures { result ≡ pass_by by self.now }
+    {
+        self.held(by?).map(|held| held.pass)
+    }
+}
+
 impl<T: Drop> Chest<T> {
     // A line for a service, by a ticket or by none. By none the box logs in, whatever tickets it holds.
     pub fn want<D: Drawn>(
-        mut self,
+        &mut self,
         drawn: &mut D,
         service: u16,
         by: Option<u64>,
         what: What,
-    ) -> (Chest<T>, Answer)
-        ensures { Wants (boxed self (D.left drawn.old)) service by what result.1 (boxed result.0 (D.left drawn.new)) }
+    ) -> Result<Answer, Fault>
+        ensures { Wants (boxed self.old (D.left drawn.old)) service by what result (boxed self.new (D.left drawn.new)) }
     {
         if is_unread(self.lines, service, &what) {
-            return (self, Answer::Wrong(Fault::OutOfRange));
+            return Err(Fault::OutOfRange);
         }
-        let pass = pass_by(self.tickets.as_slice(), by);
+        let pass = self.tickets.pass_by(by);
         if let Some(fault) = judge_line(self.now, drawn, service, by, pass) {
-            return (self, Answer::Wrong(fault));
+            return Err(fault);
         }
         self.lines += 1;
         let line = Line {
@@ -111,13 +94,10 @@ impl<T: Drop> Chest<T> {
             tick: self.now,
         };
         match pass {
-            None => {
-                let (chest, login) = self.log_in(drawn, line);
-                (chest, Answer::LogsIn(login))
-            }
+            None => Ok(Answer::LogsIn(self.log_in(drawn, line))),
             Some(pass) => {
-                let (chest, asking) = self.ask(drawn, pass.key, pass.service, line);
-                (chest, Answer::Asks(pass.id, asking))
+                let asking = self.ask(drawn, pass.key, pass.service, line);
+                Ok(Answer::Asks(pass.id, asking))
             }
         }
     }

@@ -3,18 +3,10 @@ ghost use Rattle.std.specs.Prelude.{◌≤◌, vec_capacity};
 
 use parts::Entry;
 
-mod entries;
 mod recall;
 
-// How a write that a crash cut has ended: the old stands, the new entry stands, or junk.
-#[derive(Clone, Copy)]
-pub enum Cut {
-    Old,
-    New(u128),
-    Junk,
-}
-
-// What is remembered, the oldest first; room for all of it is there from the start.
+// What is remembered, the oldest first; room for all of it is there from the start. `writes` is a flag with nothing beside
+// it: the owner tells it, and what a write answers is a Result.
 #[derive(Drop)]
 pub struct Held {
     entries: Vec<Entry>,

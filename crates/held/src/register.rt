@@ -5,9 +5,9 @@ ghost use Rattle.std.specs.Prelude.{◌≡◌, true, replicate};
 ghost use Rattle.std.proofs.Common.{rules};
 
 use house_rules::Accounts;
-use parts::Account;
+use parts::{Account, NotWritten};
 
-// The account of each number.
+// The account of each number, and a flag that the owner tells: whether the device writes.
 #[derive(Drop)]
 pub struct Register {
     accounts: [Account; 1024],
@@ -27,6 +27,7 @@ impl Register {
     }
 
     // The device writes from now on, or does not.
+    // A setter of one field; the memory has one too, for its own device.
     pub fn set_writes(&mut self, writes: bool)
         ensures writes { self.new.writes ≡ writes }
         ensures accounts { self.new.accounts ≡ self.old.accounts }
@@ -45,20 +46,17 @@ impl Accounts for Register {
     ghost same = { Prim.search rules };
 
     fn account(&self, number: u16) -> Account {
-        let accounts: &[Account] = &self.accounts;
-        let at = number as usize;
-        if at < accounts.len() {
-            accounts[at]
-        } else {
-            Account::Absent
-        }
+        self.accounts
+            .get(usize::from(number))
+            .copied()
+            .unwrap_or(Account::Absent)
     }
 
-    fn set(&mut self, number: u16, account: Account) -> bool {
+    fn set(&mut self, number: u16, account: Account) -> Result<(), NotWritten> {
         if !self.writes {
-            return false;
+            return Err(NotWritten);
         }
-        self.accounts[number as usize] = account;
-        true
+        self.accounts[usize::from(number)] = account;
+        Ok(())
     }
 }

@@ -1,5 +1,8 @@
 // Drawn bytes held by value.
-ghost use Rattle.std.specs.Prelude.{◌≤◌, vec_len};
+ghost use Rattle.held.specs.declared.supply.NotAdded.TheVariants.{NoMemory};
+ghost use Rattle.std.specs.Prelude.{◌≡◌, ◌≤◌, vec_len};
+
+use std::alloc::AllocError;
 
 mod usage;
 
@@ -16,4 +19,12 @@ pub struct Supply {
 pub enum NotAdded {
     TooMany,
     NoMemory,
+}
+
+impl From<AllocError> for NotAdded {
+    ghost from_gives = { λ _ e. e ≡ NoMemory };
+
+    fn from(_: AllocError) -> NotAdded {
+        NotAdded::NoMemory
+    }
 }

@@ -1,2 +1,3 @@
-pub mod Torn
+pub mod Device
 pub mod Ledger
+pub mod Torn

@@ -1,12 +1,10 @@
 // A memory and accounts held by value whose next write can be cut: the side that owns them crashes then.
 #![tactic(auto)]
 
+mod device;
 mod ledger;
-mod ledger_tear;
-mod left;
 mod memory;
-mod memory_tear;
 
-pub use ledger::{CutSet, Ledger};
-pub use left::Left;
+pub use device::Device;
+pub use ledger::{Change, Ledger};
 pub use memory::Torn;

@@ -1,13 +1,14 @@
 // How a memory that is held by value remembers, and what a crash leaves of it.
 ghost use Rattle.parts.specs.declared.account.Entry.{Entry};
 ghost use Rattle.held.specs.Crash.{rejunk, reread};
-ghost use Rattle.std.specs.Prelude.{◌≡◌, true, false, [], IfOk};
+ghost use Rattle.service_rules.specs.Memory.{live_of, recorded};
+ghost use Rattle.std.specs.Prelude.{◌≡◌, ◌<◌, true, false, [], length, IfOk};
 ghost use Rattle.std.proofs.Common.{rules};
 
-use super::entries::{forget, highest_in, live_in, stands_in};
-use super::{Cut, Held};
-use parts::Entry;
-use service_rules::{Memory, ROOM};
+use super::Held;
+use crate::cut::Cut;
+use parts::{Clock, NotWritten};
+use service_rules::{Memory, ROOM, highest_in, live_in, remember, stands_in};
 use std::alloc::{AllocError, Global};
 
 impl Held {
@@ -24,6 +25,7 @@ impl Held {
     }
 
     // The device writes from now on, or does not.
+    // A setter of one field; the accounts have one too, for their own device.
     pub fn set_writes(&mut self, writes: bool)
         ensures writes { self.new.writes ≡ writes }
         ensures kept { self.new.entries.items ≡ self.old.entries.items }
@@ -32,24 +34,31 @@ impl Held {
         self.writes = writes;
     }
 
-    // What is read again after a crash at this tick.
-    pub fn crash(&mut self, cut: Cut, tick: u64, lag: u64)
-        ensures kept { self.new.entries.items ≡ reread tick lag cut self.old.entries.items }
-        ensures junk { self.new.junk ≡ rejunk tick lag cut self.old.entries.items self.old.junk }
+    // Writes one more, with those that are not forgotten yet.
+    fn write(&mut self, digest: u128, clock: Clock)
+        requires { length (live_of clock.tick clock.lag self.old.entries.items) < 8192 }
+        ensures kept { self.new.entries.items ≡ recorded clock.tick clock.lag digest self.old.entries.items }
+        ensures junk { self.new.junk ≡ false }
+        ensures writes { self.new.writes ≡ self.old.writes }
+    {
+        remember(&mut self.entries, digest, clock);
+        self.junk = false;
+    }
+
+    // What is read again after a crash, by how the write that it cut has ended.
+    pub fn crash(&mut self, cut: Cut<u128>, clock: Clock)
+        ensures kept { self.new.entries.items ≡ reread clock.tick clock.lag cut self.old.entries.items }
+        ensures junk { self.new.junk ≡ rejunk clock.tick clock.lag cut self.old.entries.items self.old.junk }
         ensures writes { self.new.writes ≡ self.old.writes }
     {
         match cut {
             Cut::Old => {}
             Cut::New(digest) => {
-                if live_in(self.entries.as_slice(), tick, lag) < ROOM {
-                    forget(&mut self.entries, tick, lag);
-                    self.entries.push_reserved(Entry { digest, tick });
-                    self.junk = false;
+                if live_in(&self.entries, clock) < ROOM {
+                    self.write(digest, clock);
                 }
             }
-            Cut::Junk => {
-                self.junk = true;
-            }
+            Cut::Junk => self.junk = true,
         }
     }
 }
@@ -65,29 +74,27 @@ impl Memory for Held {
 
     ghost same = { Prim.search rules };
 
-    fn stands(&self, digest: u128, tick: u64, lag: u64) -> bool {
-        stands_in(self.entries.as_slice(), digest, tick, lag)
+    fn stands(&self, digest: u128, clock: Clock) -> bool {
+        stands_in(&self.entries, digest, clock)
     }
 
-    fn live(&self, tick: u64, lag: u64) -> usize {
-        live_in(self.entries.as_slice(), tick, lag)
+    fn live(&self, clock: Clock) -> usize {
+        live_in(&self.entries, clock)
     }
 
     fn highest(&self) -> u64 {
-        highest_in(self.entries.as_slice())
+        highest_in(&self.entries)
     }
 
     fn junk(&self) -> bool {
         self.junk
     }
 
-    fn record(&mut self, digest: u128, tick: u64, lag: u64) -> bool {
+    fn record(&mut self, digest: u128, clock: Clock) -> Result<(), NotWritten> {
         if !self.writes {
-            return false;
+            return Err(NotWritten);
         }
-        forget(&mut self.entries, tick, lag);
-        self.entries.push_reserved(Entry { digest, tick });
-        self.junk = false;
-        true
+        self.write(digest, clock);
+        Ok(())
     }
 }

@@ -27,12 +27,8 @@ impl Supply {
         if more.len() > MOST || self.count() > MOST - more.len() {
             return Err(NotAdded::TooMany);
         }
-        let Ok(mut bytes) = Vec::from_slice(heap, &self.bytes.as_slice()[self.used..]) else {
-            return Err(NotAdded::NoMemory);
-        };
-        let Ok(()) = bytes.extend_from_slice(more) else {
-            return Err(NotAdded::NoMemory);
-        };
+        let mut bytes = Vec::from_slice(heap, &self.bytes[self.used..])?;
+        bytes.extend_from_slice(more)?;
         self.bytes = bytes;
         self.used = 0;
         Ok(())
@@ -46,19 +42,9 @@ impl Drawn for Supply {
         self.bytes.len() - self.used
     }
 
-    fn take_16(&mut self) -> [u8; 16] {
-        let mut out = [0u8; 16];
-        let from = self.used;
-        out.copy_from_slice(&self.bytes.as_slice()[from..from + 16]);
-        self.used += 16;
-        out
-    }
-
-    fn take_32(&mut self) -> [u8; 32] {
-        let mut out = [0u8; 32];
-        let from = self.used;
-        out.copy_from_slice(&self.bytes.as_slice()[from..from + 32]);
-        self.used += 32;
-        out
+    fn fill(&mut self, out: &mut [u8]) {
+        let end = self.used + out.len();
+        out.copy_from_slice(&self.bytes[self.used..end]);
+        self.used = end;
     }
 }
