@@ -1,16 +1,15 @@
 -- The decisions of the house are what the house must be. Assumes nothing.
-use Rattle.std.proofs.Common.{◌≡◌, ℕ, ◌<◌, Bool, true, false, cond, not, ◌&&◌, ◌||◌, eqb, ltb, List, length, Some, None, Option, sym, refl, ap, ◌∙◌, arith}
+use Rattle.std.proofs.Common.{◌≡◌, ℕ, ◌<◌, Bool, true, false, cond, not, ◌&&◌, ◌||◌, eqb, ltb, List, length, Some, None, Ok, Err, Option, sym, refl, ap, ◌∙◌, arith}
 use Rattle.code.proofs.Serves.{clear, not'}
 use Rattle.code.specs.Code.{MayGrant, MayLogIn}
 use Rattle.code.specs.Sides.{HouseStands, KeptHome, home_of, home_view, with_accounts}
 use Rattle.house_rules.proofs.Decided.{told}
-use Rattle.house_rules.specs.Account.{account_of, closed, is_closed, unknown}
-use Rattle.house_rules.specs.Change.{changed, closed_of, shut, shut_after, shut_from}
+use Rattle.house_rules.specs.Account.{account_of, closed, unknown}
+use Rattle.parts.specs.Account.{is_closed}
+use Rattle.house_rules.specs.Change.{Answer, changed, closed_of, shut, shut_after, shut_from}
 use Rattle.house_rules.specs.Give.{giving}
 use Rattle.house_rules.specs.House.{Home, after, answered, asked_given, conditions, drew, for_house, granted, logged_in, login_conditions, login_given, missing, misled, noted, readable, refusal, until_of, wanted}
-use Rattle.house_rules.specs.declared.change.Changed.{Changed}
-use Rattle.house_rules.specs.declared.change.Changed.TheVariants.{Done, Refused as Unchanged, Same}
-use Rattle.house_rules.specs.declared.reply.Reply.TheVariants.{Refused}
+use Rattle.house_rules.specs.declared.change.Changed.TheVariants.{Done, Same}
 use Rattle.parts.proofs.Conditions.{first_fault-nil, passed}
 use Rattle.parts.specs.Condition.{first_fault, unless}
 use Rattle.parts.specs.declared.account.Account.{Account}
@@ -145,15 +144,15 @@ some-none f e = let z : ◌≡◌ {A = ℕ} 0 1 = cc in omega arith
 reads : (h : Home) (t : Ticket) (q : Asking) (d : ℕ) → refusal (answered h t q d) ≡ None → Read h t q d
 reads h t q d e = by (readable q) refl e
   where
-    by : (b : Bool) → readable q ≡ b → refusal (cond b (unless (first_fault (conditions h t q d)) (granted h t q) Refused) (Refused BadInside)) ≡ None → Read h t q d
+    by : (b : Bool) → readable q ≡ b → refusal (cond b (unless (first_fault (conditions h t q d)) (granted h t q) Err) (Err BadInside)) ≡ None → Read h t q d
     by true r k = record { read = r; clear = sym (told (first_fault (conditions h t q d)) (until_of h) h.left (asked_given h t q)) ∙ k }
     by false r k = absurd (some-none BadInside k)
 
 -- what was granted, answered and left
 answers : (h : Home) (t : Ticket) (q : Asking) (d : ℕ) → Read h t q d → answered h t q d ≡ granted h t q
 answers h t q d r =
-    ap (λ (b : Bool). cond b (unless (first_fault (conditions h t q d)) (granted h t q) Refused) (Refused BadInside)) r.read
-    ∙ ap (λ (o : Option Fault). unless o (granted h t q) Refused) r.clear
+    ap (λ (b : Bool). cond b (unless (first_fault (conditions h t q d)) (granted h t q) Err) (Err BadInside)) r.read
+    ∙ ap (λ (o : Option Fault). unless o (granted h t q) Err) r.clear
 
 leaves : (h : Home) (t : Ticket) (q : Asking) (d : ℕ) → Read h t q d → after h t q d ≡ drew (noted h d)
 leaves h t q d r =
@@ -164,7 +163,7 @@ leaves h t q d r =
 stays : (h : Home) (t : Ticket) (q : Asking) (d : ℕ) (f : Fault) → refusal (answered h t q d) ≡ Some f → after h t q d ≡ h
 stays h t q d f e = by (readable q) e
   where
-    by : (b : Bool) → refusal (cond b (unless (first_fault (conditions h t q d)) (granted h t q) Refused) (Refused BadInside)) ≡ Some f →
+    by : (b : Bool) → refusal (cond b (unless (first_fault (conditions h t q d)) (granted h t q) Err) (Err BadInside)) ≡ Some f →
         cond b (unless (first_fault (conditions h t q d)) (drew (noted h d)) (λ _. h)) h ≡ h
     by true k = ap (λ (o : Option Fault). unless o (drew (noted h d)) (λ _. h)) (sym (told (first_fault (conditions h t q d)) (until_of h) h.left (asked_given h t q)) ∙ k)
     by false k = refl
@@ -178,13 +177,13 @@ may_read h t q d m = record {
 -- Closings
 
 -- an account that was closed is closed
-shut-closed : (xs : List Account) (a : ℕ) (w : Bool) → a < length xs → shut xs a w ≡ Done → closed (shut_after xs a w) a ≡ true
+shut-closed : (xs : List Account) (a : ℕ) (w : Bool) → a < length xs → shut xs a w ≡ Ok Done → closed (shut_after xs a w) a ≡ true
 shut-closed xs a w l e =
-    ap (λ (c : Changed). closed (changed xs a (closed_of (account_of xs a)) c) a) e
+    ap (λ (c : Answer). closed (changed xs a (closed_of (account_of xs a)) c) a) e
     ∙ ap (λ (x : Account). is_closed x) (get_or-set_same xs a (closed_of (account_of xs a)) Absent l)
     ∙ by (nobody a) (account_of xs a) e
   where
-    by : (b : Bool) (x : Account) → cond b (Unchanged Unknown) (shut_from x w) ≡ Done → is_closed (closed_of x) ≡ true
+    by : (b : Bool) (x : Account) → cond b (Err Unknown) (shut_from x w) ≡ Ok Done → is_closed (closed_of x) ≡ true
     by true x k = let z : true ≡ true = refl in cc
     by false Absent k = cc
     by false (Open y) k = refl
@@ -193,27 +192,27 @@ shut-closed xs a w l e =
 shut-others : (xs : List Account) (a b : ℕ) (w : Bool) → (b ≡ a → ⊥) → account_of (shut_after xs a w) b ≡ account_of xs b
 shut-others xs a b w n = by (shut xs a w)
   where
-    by : (c : Changed) → account_of (changed xs a (closed_of (account_of xs a)) c) b ≡ account_of xs b
-    by Done = get_or-set_other xs a b (closed_of (account_of xs a)) Absent n
-    by Same = refl
-    by (Unchanged f) = refl
+    by : (c : Answer) → account_of (changed xs a (closed_of (account_of xs a)) c) b ≡ account_of xs b
+    by (Ok Done) = get_or-set_other xs a b (closed_of (account_of xs a)) Absent n
+    by (Ok Same) = refl
+    by (Err f) = refl
 
 pub house-so : HouseStands
 house-so lag life k = record {
-  lets_so = λ a l s m. ap (λ (o : Option Fault). unless o (giving (until_of (view s)) s.left (login_given (view s) a l)) Refused) (login-none (view s) a l m);
-  lets_only = λ a l s e. login-all (view s) a l (login-told (view s) a l ∙ e);
-  let_in_so = λ a l s e. let x = ap (λ (o : Option Fault). unless o (drew (view s)) (λ _. view s)) (login-told (view s) a l ∙ e) in
+  lets_so = λ a l s m. ap (λ (o : Option Fault). unless o (giving (until_of (view false s)) s.left (login_given (view false s) a l)) Err) (login-none (view false s) a l m);
+  lets_only = λ a l s e. login-all (view false s) a l (login-told (view false s) a l ∙ e);
+  let_in_so = λ a l s e. let x = ap (λ (o : Option Fault). unless o (drew (view false s)) (λ _. view false s)) (login-told (view false s) a l ∙ e) in
       (ap (λ (y : Home). y.left) x, ap (λ (y : Home). y.kept) x, ap (λ (y : Home). y.accounts) x);
-  let_in_not = λ a l f s e. ap (λ (o : Option Fault). home_of (unless o (drew (view s)) (λ _. view s))) (login-told (view s) a l ∙ e);
-  grants_so = λ w t q d s m. answers (home_view lag life k w s) t q d (may_read (home_view lag life k w s) t q d m);
-  grants_only = λ w t q d s e. let r = reads (home_view lag life k w s) t q d e in all-holds (home_view lag life k w s) t q d r.read r.clear;
-  after_so = λ w t q d s m. let x = leaves (home_view lag life k w s) t q d (may_read (home_view lag life k w s) t q d m) in
+  let_in_not = λ a l f s e. ap (λ (o : Option Fault). home_of (unless o (drew (view false s)) (λ _. view false s))) (login-told (view false s) a l ∙ e);
+  grants_so = λ w t q d s m. answers (view w s) t q d (may_read (view w s) t q d m);
+  grants_only = λ w t q d s e. let r = reads (view w s) t q d e in all-holds (view w s) t q d r.read r.clear;
+  after_so = λ w t q d s m. let x = leaves (view w s) t q d (may_read (view w s) t q d m) in
       (ap (λ (y : Home). y.kept) x, ap (λ (y : Home). y.left) x, ap (λ (y : Home). y.accounts) x);
-  refused_so = λ w t q d f s e. ap (λ (y : Home). home_of y) (stays (home_view lag life k w s) t q d f e);
-  closes_not = λ w a f s e. ap (λ (c : Changed). with_accounts (changed s.accounts a (closed_of (account_of s.accounts a)) c) s) e;
+  refused_so = λ w t q d f s e. ap (λ (y : Home). home_of y) (stays (view w s) t q d f e);
+  closes_not = λ w a f s e. ap (λ (c : Answer). with_accounts (changed s.accounts a (closed_of (account_of s.accounts a)) c) s) e;
   closes_so = λ w a s l e. shut-closed s.accounts a w l e;
   others_so = λ w a b s n. shut-others s.accounts a b w n;
 }
   where
-    view : KeptHome → Home
-    view s = home_view lag life k false s
+    view : Bool → KeptHome → Home
+    view w s = home_view lag life k w s

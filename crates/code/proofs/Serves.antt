@@ -10,9 +10,8 @@ use Rattle.parts.specs.declared.fault.Fault.TheVariants.{DoneBefore, NoDrawnByte
 use Rattle.parts.specs.declared.word.Asking.{Asking}
 use Rattle.parts.specs.declared.word.Ticket.{Ticket}
 use Rattle.service_rules.specs.Memory.{recorded}
-use Rattle.service_rules.specs.Service.{View, after, conditions, deed_of, done_by, nobody, receipt_of, refusal}
+use Rattle.service_rules.specs.Service.{View, after, answered, conditions, deed_of, done, done_by, nobody, receipt_of, refusal}
 use Rattle.service_rules.specs.Side.{begun, unfit}
-use Rattle.service_rules.specs.declared.answer.Answer.TheVariants.{Done, Refused}
 use Rattle.service_rules.specs.declared.side.Side.{Side}
 use Rattle.std.proofs.lemmas.Bool.{and_from, and_parts, eq-eqb, eqb-true, le-ltb, leb-false, lt-leb, ltb-false, not-false}
 
@@ -62,9 +61,12 @@ all-holds v t a d h =
       free = record { new = p8.0; room = leb-false _ _ p9.0; awake = p14.0; writing = not-false _ p15.0 };
     }
 
-told : (v : View) (t : Ticket) (a : Asking) (o : Option Fault) → refusal (unless o (Done (deed_of t a) (receipt_of v t a)) Refused) ≡ o
+told : (v : View) (t : Ticket) (a : Asking) (o : Option Fault) → refusal (unless o (done (deed_of t a) (receipt_of v t a)) Err) ≡ o
 told v t a None = refl
 told v t a (Some f) = refl
+
+answers : (v : View) (t : Ticket) (a : Asking) (d : ℕ) → refusal (answered v t a d) ≡ first_fault (conditions v t a d)
+answers v t a d = told v t a (first_fault (conditions v t a d))
 
 -- what a fall leaves, and when it waits
 falls : (lag n : ℕ) (junk : Bool) (at : ℕ) (s : Kept) → nobody n ≡ false → unfit lag at s.kept ≡ false →
@@ -79,18 +81,21 @@ waits-until false until later = le-ltb later 0 (omega arith)
 
 pub service-so : ServiceStands
 service-so lag n = record {
-  does_so = λ w t a d s m. ap (λ (o : Option Fault). unless o (Done (deed_of t a) (receipt_of (kept_view lag n w s) t a)) Refused) (none-wrong (kept_view lag n w s) t a d m);
-  only_so = λ w t a d s e. all-holds (kept_view lag n w s) t a d (sym (told (kept_view lag n w s) t a (first_fault (conditions (kept_view lag n w s) t a d))) ∙ e);
-  lowest_so = λ w t a d s. lowest-first (conditions (kept_view lag n w s) t a d) _ (told (kept_view lag n w s) t a (first_fault (conditions (kept_view lag n w s) t a d))) refl;
-  after_so = λ w t a d s e. done w t a d s (sym (told (kept_view lag n w s) t a (first_fault (conditions (kept_view lag n w s) t a d))) ∙ e);
-  refused_so = λ w t a d f s e. ap (λ (o : Option Fault). kept_of (unless o (done_by (kept_view lag n w s) d) (λ _. kept_view lag n w s))) (sym (told (kept_view lag n w s) t a (first_fault (conditions (kept_view lag n w s) t a d))) ∙ e);
+  does_so = λ w t a d s m. ap (λ (o : Option Fault). unless o (done (deed_of t a) (receipt_of (v w s) t a)) Err) (none-wrong (v w s) t a d m);
+  only_so = λ w t a d s e. all-holds (v w s) t a d (sym (answers (v w s) t a d) ∙ e);
+  lowest_so = λ w t a d s. lowest-first (conditions (v w s) t a d) _ (answers (v w s) t a d) refl;
+  after_so = λ w t a d s e. leaves w t a d s (sym (answers (v w s) t a d) ∙ e);
+  refused_so = λ w t a d f s e. ap (λ (o : Option Fault). kept_of (unless o (done_by (v w s) d) (λ _. v w s))) (sym (answers (v w s) t a d) ∙ e);
   falls_so = λ junk at s e u. let k = falls lag n junk at s e u in
       (ap (λ (x : Kept). x.kept) k, ap (λ (x : Kept). x.now) k, λ later. ap (λ (x : Kept). ltb later x.wake) k ∙ waits-until (junk || s.junk) (at + lag + 1) later);
 }
   where
-    done : (w : Bool) (t : Ticket) (a : Asking) (d : ℕ) (s : Kept) → first_fault (conditions (kept_view lag n w s) t a d) ≡ None →
-        ((kept_of (after (kept_view lag n w s) t a d)).kept ≡ recorded s.now lag d s.kept) × ((kept_of (after (kept_view lag n w s) t a d)).left ≡ drop 16 s.left)
-        × ((kept_of (after (kept_view lag n w s) t a d)).now ≡ s.now) × ((at : ℕ) → ltb at (kept_of (after (kept_view lag n w s) t a d)).wake ≡ ltb at s.wake)
-    done w t a d s e =
-        let k : after (kept_view lag n w s) t a d ≡ done_by (kept_view lag n w s) d = ap (λ (o : Option Fault). unless o (done_by (kept_view lag n w s) d) (λ _. kept_view lag n w s)) e in
+    v : Bool → Kept → View
+    v w s = kept_view lag n w s
+
+    leaves : (w : Bool) (t : Ticket) (a : Asking) (d : ℕ) (s : Kept) → first_fault (conditions (v w s) t a d) ≡ None →
+        ((kept_of (after (v w s) t a d)).kept ≡ recorded s.now lag d s.kept) × ((kept_of (after (v w s) t a d)).left ≡ drop 16 s.left)
+        × ((kept_of (after (v w s) t a d)).now ≡ s.now) × ((at : ℕ) → ltb at (kept_of (after (v w s) t a d)).wake ≡ ltb at s.wake)
+    leaves w t a d s e =
+        let k : after (v w s) t a d ≡ done_by (v w s) d = ap (λ (o : Option Fault). unless o (done_by (v w s) d) (λ _. v w s)) e in
         (ap (λ (x : View). (kept_of x).kept) k, ap (λ (x : View). (kept_of x).left) k, ap (λ (x : View). (kept_of x).now) k, λ at. ap (λ (x : View). ltb at (kept_of x).wake) k)

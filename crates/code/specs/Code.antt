@@ -4,13 +4,12 @@
 -- MayDo, MayLogIn, MayGrant  all that has to hold for a deed, a login, an asking of the house
 -- Service, ServiceSo         what a service has, and what has to hold of it
 -- House, HouseSo             what the house has, and what has to hold of it
-use Rattle.std.specs.Prelude.{◌≡◌, ℕ, ◌+◌, ◌<◌, ◌≤◌, Bool, true, false, ◌&&◌, ◌||◌, List, length, drop, Some, None, ◌≢◌, nat_eq, nat_lt}
+use Rattle.std.specs.Prelude.{◌≡◌, ℕ, ◌+◌, ◌<◌, ◌≤◌, Bool, true, false, ◌&&◌, ◌||◌, List, length, drop, Some, None, Ok, Err, ◌≢◌, nat_eq, nat_lt}
 use Rattle.house_rules.specs.Account.{account_of, closed, own_key, unknown}
-use Rattle.house_rules.specs.Give.{giving}
+use Rattle.house_rules.specs.Change.{Answer as Changing}
+use Rattle.house_rules.specs.Give.{Reply, giving}
 use Rattle.house_rules.specs.House.{refusal as denial, wanted}
-use Rattle.house_rules.specs.declared.change.Changed.{Changed}
-use Rattle.house_rules.specs.declared.change.Changed.TheVariants.{Done as Changes, Refused as Unchanged}
-use Rattle.house_rules.specs.declared.reply.Reply.{Reply}
+use Rattle.house_rules.specs.declared.change.Changed.TheVariants.{Done}
 use Rattle.parts.specs.Condition.{Lowest}
 use Rattle.parts.specs.Drawn.{salt_of}
 use Rattle.parts.specs.Tick.{lately, over}
@@ -23,10 +22,8 @@ use Rattle.parts.specs.declared.word.Key.{Key}
 use Rattle.parts.specs.declared.word.Login.{Login}
 use Rattle.parts.specs.declared.word.Ticket.{Ticket}
 use Rattle.service_rules.specs.Memory.{live_of, recorded, stands}
-use Rattle.service_rules.specs.Service.{deed_of, nobody, refusal}
+use Rattle.service_rules.specs.Service.{Answer, deed_of, done, nobody, refusal}
 use Rattle.service_rules.specs.Side.{unfit}
-use Rattle.service_rules.specs.declared.answer.Answer.{Answer}
-use Rattle.service_rules.specs.declared.answer.Answer.TheVariants.{Done}
 
 -- the memory and the device let it be remembered: it is new, there is room, nobody waits, and the device writes
 pub record Free (lag now : ℕ) (waits writes : Bool) (es : List Entry) (d : ℕ) : Type 0 where
@@ -85,7 +82,7 @@ pub record Service : Type 1 where
 pub record ServiceSo (lag number : ℕ) (o : Service) : Type 0 where
   -- where all of it holds it is done, and the receipt goes out under the ticket's key
   pub does_so : (w : Bool) (t : Ticket) (a : Asking) (d : ℕ) (s : o.State) → MayDo lag number (o.now s) (o.waits (o.now s) s) w (o.kept s) (o.left s) t a d →
-      o.answer w t a d s ≡ Done (deed_of t a) (record { key = t.key; salt = salt_of (o.left s); inside = record { number = a.number } })
+      o.answer w t a d s ≡ done (deed_of t a) (record { key = t.key; salt = salt_of (o.left s); inside = record { number = a.number } })
   -- and only there
   pub only_so : (w : Bool) (t : Ticket) (a : Asking) (d : ℕ) (s : o.State) → refusal (o.answer w t a d s) ≡ None →
       MayDo lag number (o.now s) (o.waits (o.now s) s) w (o.kept s) (o.left s) t a d
@@ -114,7 +111,7 @@ pub record House : Type 1 where
   pub let_in : ℕ → Login → State → State
   pub answer : (writes : Bool) → Ticket → Asking → (digest : ℕ) → State → Reply
   pub after : (writes : Bool) → Ticket → Asking → (digest : ℕ) → State → State
-  pub closes : (writes : Bool) → ℕ → State → Changed
+  pub closes : (writes : Bool) → ℕ → State → Changing
   pub closes_to : (writes : Bool) → ℕ → State → State
 
 -- what has to hold of it
@@ -136,7 +133,7 @@ pub record HouseSo (lag life : ℕ) (own : Key) (o : House) : Type 0 where
       (o.kept (o.after w t q d s) ≡ recorded (o.now s) lag d (o.kept s)) × (o.left (o.after w t q d s) ≡ drop 64 (o.left s)) × (o.accounts (o.after w t q d s) ≡ o.accounts s)
   pub refused_so : (w : Bool) (t : Ticket) (q : Asking) (d : ℕ) (f : Fault) (s : o.State) → denial (o.answer w t q d s) ≡ Some f → o.after w t q d s ≡ s
   -- a closing can fail, and then nothing changes
-  pub closes_not : (w : Bool) (a : ℕ) (f : Fault) (s : o.State) → o.closes w a s ≡ Unchanged f → o.closes_to w a s ≡ s
+  pub closes_not : (w : Bool) (a : ℕ) (f : Fault) (s : o.State) → o.closes w a s ≡ Err f → o.closes_to w a s ≡ s
   -- one that is answered leaves the account closed, and no other account changes
-  pub closes_so : (w : Bool) (a : ℕ) (s : o.State) → a < length (o.accounts s) → o.closes w a s ≡ Changes → closed (o.accounts (o.closes_to w a s)) a ≡ true
+  pub closes_so : (w : Bool) (a : ℕ) (s : o.State) → a < length (o.accounts s) → o.closes w a s ≡ Ok Done → closed (o.accounts (o.closes_to w a s)) a ≡ true
   pub others_so : (w : Bool) (a b : ℕ) (s : o.State) → (b ≢ a) → account_of (o.accounts (o.closes_to w a s)) b ≡ account_of (o.accounts s) b

@@ -4,15 +4,11 @@
 ghost use Rattle.code.specs.Sides.{HouseStands, ServiceStands};
 
 // The decisions of a service, as their contracts say them, are what a service must be.
-pub fn service_stands() -> u8
+pub fn service_stands()
     ensures { ServiceStands }
-{
-    0
-}
+{}
 
 // The decisions of the house, as their contracts say them, are what a house must be.
-pub fn house_stands() -> u8
+pub fn house_stands()
     ensures { HouseStands }
-{
-    0
-}
+{}

@@ -1,5 +1,5 @@
 -- A row that can happen is heard in order, so no deed of it is one that was not asked. Assumes nothing.
-use Rattle.std.proofs.Common.{◌≡◌, ℕ, ◌+◌, ◌^◌, ◌<◌, ◌≤◌, Bool, true, false, cond, eqb, ltb, leb, ◌⊎◌, List, [], ◌∷◌, ◌++◌, map, length, Some, None, Option, sym, refl, ap, ◌∙◌, subst, inl, inr, arith, ltb-false}
+use Rattle.std.proofs.Common.{◌≡◌, ℕ, ◌+◌, ◌^◌, ◌<◌, ◌≤◌, Bool, true, false, cond, eqb, ltb, leb, ◌⊎◌, List, [], ◌∷◌, ◌++◌, map, length, Some, None, Option, sym, refl, ap, ◌∙◌, subst, inl, inr, arith, ltb-false, Err, Ok}
 use Rattle.judge_rules.specs.Judge.{View, key_of}
 use Rattle.judge_rules.specs.Total.{total_of}
 use Rattle.judge_rules.specs.declared.record.Principal.{Principal}
@@ -15,13 +15,12 @@ use Rattle.parts.specs.declared.word.Key.{Key}
 use Rattle.parts.specs.declared.word.Ticket.{Ticket}
 use Rattle.service_rules.specs.Service as service
 use Rattle.service_rules.specs.Side.{set_tick, unfit}
-use Rattle.service_rules.specs.declared.answer.Answer.{Answer}
-use Rattle.service_rules.specs.declared.answer.Answer.TheVariants.{Done as Did, Refused}
+use Rattle.service_rules.specs.Service.{Answer}
 use Rattle.service_rules.specs.declared.side.Side.{Side}
 use Rattle.house_rules.specs.House.{Home, conditions, drew, login_conditions, readable}
 use Rattle.house_rules.specs.House as house
 use Rattle.box_rules.specs.Line as boxline
-use Rattle.box_rules.specs.declared.answer.Answer as Told
+use Rattle.box_rules.specs.Line.{Told}
 use Rattle.box_rules.specs.declared.answer.Answer.TheVariants as told
 use Rattle.held.specs.Crash.{reread, rejunk}
 use Rattle.rows.specs.Name.{Bytes, Naming, own_name, own_of}
@@ -42,13 +41,13 @@ none-counted (Stolen x y z ∷ rs) h = none-counted rs (λ i. h (Memᴰ.tail i))
 none-counted (NotAsked ∷ rs) h = absurd (h (Memᴰ.head refl))
 
 -- what a hearing tells is what the act told
-line_of : (a : Told.Answer) (w : Wanted) → line_in (of_line (line_told a w)) ≡ line_told a w
-line_of (told.LogsIn l) w = refl
-line_of (told.Asks i l) w = refl
-line_of (told.Takes g l) w = refl
-line_of (told.Receipt i) w = refl
-line_of (told.Shown k) w = refl
-line_of (told.Wrong f) w = refl
+line_of : (a : Told) (w : Wanted) → line_in (of_line (line_told a w)) ≡ line_told a w
+line_of (Ok (told.LogsIn l)) w = refl
+line_of (Ok (told.Asks i l)) w = refl
+line_of (Ok (told.Takes g l)) w = refl
+line_of (Ok (told.Receipt i)) w = refl
+line_of (Ok (told.Shown k)) w = refl
+line_of (Err f) w = refl
 
 no-deed-of : (ws : List Wanted) → deed_in (of_line ws) ≡ []
 no-deed-of [] = refl
@@ -59,8 +58,8 @@ no-theft-of [] = refl
 no-theft-of (w ∷ ws) = refl
 
 deed-of : (a : Answer) (p v t : ℕ) (st : List ℕ) → deed_in (of_deed (deed_told a p v t st)) ≡ deed_told a p v t st
-deed-of (Did d l) p v t st = refl
-deed-of (Refused f) p v t st = refl
+deed-of (Ok y) p v t st = refl
+deed-of (Err f) p v t st = refl
 
 no-line-of : (ds : List Deed) → line_in (of_deed ds) ≡ []
 no-line-of [] = refl
@@ -190,13 +189,13 @@ module _ (c : Setting) (n : Naming c.own) where
   thefts-heard t (e ∷ es) = theft-by e (run c n t es) (length es) (thefts (hearings c n t es)) (thefts-heard t es)
 
   -- a new line and a new deed are of the house's tick
-  line-now : (a : Told.Answer) (w u : Wanted) → Memᴰ u (line_told a w) → u ≡ w
-  line-now (told.LogsIn l) w u h = Memᴰ.eq_of_singleton h
-  line-now (told.Asks i l) w u h = Memᴰ.eq_of_singleton h
-  line-now (told.Takes g l) w u h = absurd (Memᴰ.not-nil h)
-  line-now (told.Receipt i) w u h = absurd (Memᴰ.not-nil h)
-  line-now (told.Shown k) w u h = absurd (Memᴰ.not-nil h)
-  line-now (told.Wrong f) w u h = absurd (Memᴰ.not-nil h)
+  line-now : (a : Told) (w u : Wanted) → Memᴰ u (line_told a w) → u ≡ w
+  line-now (Ok (told.LogsIn l)) w u h = Memᴰ.eq_of_singleton h
+  line-now (Ok (told.Asks i l)) w u h = Memᴰ.eq_of_singleton h
+  line-now (Ok (told.Takes g l)) w u h = absurd (Memᴰ.not-nil h)
+  line-now (Ok (told.Receipt i)) w u h = absurd (Memᴰ.not-nil h)
+  line-now (Ok (told.Shown k)) w u h = absurd (Memᴰ.not-nil h)
+  line-now (Err f) w u h = absurd (Memᴰ.not-nil h)
 
   box_now : (t : ℕ) (es : List Act) → Possible c n t es → (a : ℕ) → ((run c n t es).box a).now ≡ (run c n t es).home.side.now
   box_now t es h a = let o = tied c n t es h in (o.matches.box a).now_is ∙ sym o.matches.home.now_is
@@ -220,8 +219,8 @@ module _ (c : Setting) (n : Naming c.own) where
   new_line_lem t es h (system.crashes who cut) u k = absurd (Memᴰ.not-nil k)
 
   deed-now : (a : Answer) (p v t : ℕ) (st : List ℕ) (u : Deed) → Memᴰ u (deed_told a p v t st) → u.at ≡ t
-  deed-now (Did d l) p v t st u h = ap (λ (z : Deed). z.at) (Memᴰ.eq_of_singleton h)
-  deed-now (Refused f) p v t st u h = absurd (Memᴰ.not-nil h)
+  deed-now (Ok y) p v t st u h = ap (λ (z : Deed). z.at) (Memᴰ.eq_of_singleton h)
+  deed-now (Err f) p v t st u h = absurd (Memᴰ.not-nil h)
 
   new-deed : (t : ℕ) (es : List Act) → Possible c n t es → (e : Act) → system.Can c n (run c n t es) e → (u : Deed) → Memᴰ u (deed_by c n e (run c n t es) (length es)) → u.at ≡ (run c n t es).home.side.now
   new-deed t es h (system.tells to) j u k = absurd (Memᴰ.not-nil k)
@@ -264,24 +263,24 @@ module _ (c : Setting) (n : Naming c.own) where
 
   module _ (v : View) where
     -- one act is heard in order
-    in-order-line : (t : ℕ) (es : List Act) → Possible c n t es → (a : Told.Answer) (w : Wanted) → w.place ≡ length es → w.at ≡ (run c n t es).home.side.now → InOrder c n v (of_line (line_told a w)) (hearings c n t es)
-    in-order-line t es h (told.LogsIn l) w p i =
+    in-order-line : (t : ℕ) (es : List Act) → Possible c n t es → (a : Told) (w : Wanted) → w.place ≡ length es → w.at ≡ (run c n t es).home.side.now → InOrder c n v (of_line (line_told a w)) (hearings c n t es)
+    in-order-line t es h (Ok (told.LogsIn l)) w p i =
         record {
           place = p ∙ sym (length-heard t es);
           time = λ u k r. subst (λ (z : ℕ). u.at ≤ z) (sym i) (line-bound t es h u (subst (λ (z : List Wanted). Memᴰ u z) (lines-heard t es) k));
         }
-    in-order-line t es h (told.Asks j l) w p i =
+    in-order-line t es h (Ok (told.Asks j l)) w p i =
         record {
           place = p ∙ sym (length-heard t es);
           time = λ u k r. subst (λ (z : ℕ). u.at ≤ z) (sym i) (line-bound t es h u (subst (λ (z : List Wanted). Memᴰ u z) (lines-heard t es) k));
         }
-    in-order-line t es h (told.Takes g l) w p i = tt
-    in-order-line t es h (told.Receipt j) w p i = tt
-    in-order-line t es h (told.Shown k) w p i = tt
-    in-order-line t es h (told.Wrong f) w p i = tt
+    in-order-line t es h (Ok (told.Takes g l)) w p i = tt
+    in-order-line t es h (Ok (told.Receipt j)) w p i = tt
+    in-order-line t es h (Ok (told.Shown k)) w p i = tt
+    in-order-line t es h (Err f) w p i = tt
 
     in-order-deed : (t : ℕ) (es : List Act) → Possible c n t es → (s : ℕ) (x : Ticket) (q : Asking) → (s ≡ 0 → ⊥) → s < length c.own → KnowsThree c n (sat v (hearings c n t es)) s x.reader → (o : Option Fault)
-        → InOrder c n v (of_deed (deed_told (unless o (Did (service.deed_of x q) (service.receipt_of ((run c n t es).side s) x q)) Refused) (length es) s ((run c n t es).side s).side.now (run c n t es).stolen)) (hearings c n t es)
+        → InOrder c n v (of_deed (deed_told (unless o (service.done (service.deed_of x q) (service.receipt_of ((run c n t es).side s) x q)) Err) (length es) s ((run c n t es).side s).side.now (run c n t es).stolen)) (hearings c n t es)
     in-order-deed t es h s x q z i k None =
         record {
           place = sym (length-heard t es);

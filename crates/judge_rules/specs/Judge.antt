@@ -10,7 +10,7 @@
 -- verdict v a        what the judge says of a deed
 -- judged v a         what he is afterwards
 -- noted, stole, joined  the judge when a line, a theft, a principal was noted
-use Rattle.std.specs.Prelude.{ℕ, ◌+◌, Bool, true, false, cond, not, ◌&&◌, ◌||◌, List, [], ◌∷◌, ◌++◌, map, take, Some, None, vec_items, Option, ◌==◌}
+use Rattle.std.specs.Prelude.{ℕ, ◌+◌, Bool, true, false, cond, not, ◌&&◌, ◌||◌, List, [], ◌∷◌, ◌++◌, map, Some, None, vec_items, Option, ◌==◌}
 use Rattle.judge_rules.specs.declared.record.Done.{Done}
 use Rattle.judge_rules.specs.declared.record.Judge.{Judge}
 use Rattle.judge_rules.specs.declared.record.Line.{Line}
@@ -18,8 +18,8 @@ use Rattle.judge_rules.specs.declared.record.Principal.{Principal}
 use Rattle.judge_rules.specs.declared.record.Verdict.{Verdict}
 use Rattle.judge_rules.specs.declared.record.Verdict.TheVariants.{Asked, NotAsked, Stolen}
 use Rattle.parts.specs.Tick.{lately}
+use Rattle.parts.specs.What.{words_in}
 use Rattle.parts.specs.declared.word.Key.{Key}
-use Rattle.parts.specs.declared.word.What.{What}
 use Rattle.std.specs.Str.{bytes_eq}
 
 -- a line that no box refused, with its words, and whether it was spent
@@ -44,12 +44,8 @@ pub record View : Type 0 where
   pub lines : List Noted
   pub stolen : List Key
 
--- the words of what is asked
-abbrev pub words_in : What → List ℕ
-words_in w = take w.len w.bytes
-
 abbrev pub plain : Line → Noted
-plain l = record { reader = l.reader; service = l.service; words = words_in l.what; at = l.at; spent = l.spent }
+plain l = record { reader = l.wanted.reader; service = l.wanted.service; words = words_in l.wanted.what; at = l.wanted.at; spent = l.spent }
 
 abbrev pub act_of : Done → Act
 act_of d = record { service = d.service; reader = d.reader; words = words_in d.what; at = d.at }

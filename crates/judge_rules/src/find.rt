@@ -1,49 +1,28 @@
 // The oldest line that fits a deed.
-ghost use Rattle.judge_rules.specs.Find.{found_at};
-ghost use Rattle.judge_rules.specs.Judge.{act_of, fits, oldest, plain, words_in};
-ghost use Rattle.std.specs.Str.{bytes_eq};
-ghost use Rattle.std.specs.Prelude.{◌≡◌, map};
+ghost use Rattle.judge_rules.specs.Judge.{act_of, fits, plain};
+ghost use Rattle.std.specs.List.{position};
+ghost use Rattle.std.specs.Prelude.{◌≡◌};
 
 use super::record::{Done, Line};
-use parts::{What, is_lately};
-
-// The words themselves.
-fn words(what: &What) -> &[u8]
-    ensures { result.now ≡ words_in what.now }
-{
-    let len = what.len as usize;
-    if len > 1024 {
-        return &what.bytes;
-    }
-    &what.bytes[0..len]
-}
-
-// Are the words the same?
-fn same_words(one: &What, other: &What) -> bool
-    ensures { result ≡ bytes_eq (words_in one.now) (words_in other.now) }
-{
-    words(one) == words(other)
-}
+use parts::Clock;
 
 // Does a line account for a deed?
 fn is_fit(lag: u64, done: &Done, line: &Line) -> bool
     ensures { result ≡ fits lag (act_of done.now) (plain line.now) }
 {
+    let clock = Clock { tick: done.at, lag };
+    let wanted = &line.wanted;
     !line.spent
-        && line.reader == done.reader
-        && line.service == done.service
-        && is_lately(done.at, lag, line.at)
-        && same_words(&line.what, &done.what)
+        && wanted.reader == done.reader
+        && wanted.service == done.service
+        && clock.is_lately(wanted.at)
+        && wanted.what.words() == done.what.words()
 }
 
 // The index of the oldest that does.
+// An index and no line, since the verdict tells the place.
 pub(super) fn find(lag: u64, done: &Done, lines: &[Line]) -> Option<usize>
-    ensures { result ≡ found_at (oldest lag (act_of done.now) 0 (map plain lines.now)) }
+    ensures { result ≡ position (λ l. fits lag (act_of done.now) (plain l)) lines.now }
 {
-    for (i, line) in lines.iter().enumerate() {
-        if is_fit(lag, done, line) {
-            return Some(i);
-        }
-    }
-    None
+    lines.iter().position(|line| is_fit(lag, done, line))
 }

@@ -14,29 +14,30 @@ impl Judge {
         let service = self.is_robbed(done.service);
         let house = self.is_robbed(0);
         if reader || service || house {
-            return Verdict::Stolen {
+            Verdict::Stolen {
                 reader,
                 service,
                 house,
-            };
+            }
+        } else {
+            Verdict::NotAsked
         }
-        Verdict::NotAsked
     }
 
     // Judges a deed; the oldest line that accounts for it is spent.
+    // The line is taken by its index, since the verdict tells the place.
     pub fn judge(&mut self, done: &Done) -> Verdict
         ensures answer { result ≡ verdict (seen self.old) (act_of done.now) }
         ensures after { seen self.new ≡ judged (seen self.old) (act_of done.now) }
     {
-        let Some(i) = find(self.lag, done, self.lines.as_slice()) else {
+        let Some(i) = find(self.lag, done, &self.lines) else {
             return self.without_line(done);
         };
-        let mut line = self.lines[i];
+        let line = &mut self.lines[i];
         line.spent = true;
-        self.lines[i] = line;
         Verdict::Asked {
             line: i as u64 + 1,
-            at: line.at,
+            at: line.wanted.at,
         }
     }
 }

@@ -1,5 +1,5 @@
 -- Acts on accounts: opening and closing. Assumes nothing.
-use Rattle.std.proofs.Common.{◌≡◌, ℕ, suc, ◌<◌, ◌≤◌, Bool, true, false, cond, ◌||◌, eqb, ◌⊎◌, List, ◌∷◌, length, set, sym, refl, ap, ◌∙◌, subst, inl, inr, arith, length-set, get_or-set_other, get_or-set_same, eq-eqb, eqb-true}
+use Rattle.std.proofs.Common.{◌≡◌, ℕ, suc, ◌<◌, ◌≤◌, Bool, true, false, cond, ◌||◌, eqb, ◌⊎◌, List, ◌∷◌, length, set, sym, refl, ap, ◌∙◌, subst, inl, inr, arith, length-set, get_or-set_other, get_or-set_same, eq-eqb, eqb-true, Err}
 use mathlib.Core.List.{Memᴰ}
 use native.Mathlib.Decide.{dec_lt}
 use Rattle.std.proofs.lemmas.List.{get_or_past}
@@ -8,9 +8,9 @@ use Rattle.parts.specs.declared.account.Account.TheVariants.{Absent, Open, Close
 use Rattle.parts.specs.declared.fault.Fault.TheVariants.{Unknown}
 use Rattle.parts.specs.declared.word.Key.{Key}
 use Rattle.service_rules.specs.Service.{nobody}
-use Rattle.house_rules.specs.Account.{account_of, is_absent, is_closed as is_shut, key_in, unknown, closed}
+use Rattle.house_rules.specs.Account.{account_of, unknown, closed}
+use Rattle.parts.specs.Account.{is_absent, is_closed as is_shut, key_in}
 use Rattle.house_rules.specs.Change.{changed, opened_from, opened_after, shut_from, shut_after, closed_of}
-use Rattle.house_rules.specs.declared.change.Changed.TheVariants.{Refused}
 use Rattle.tickets.specs.State.{Closing, State, is_closed}
 use Rattle.tickets.specs.Event.{Event, after, Reach}
 use Rattle.tickets.specs.Event
@@ -116,7 +116,7 @@ module _ (c : Setting) (n : Naming c.own) {K : List Closing} {p : ℕ} {s : Syst
   opens_one k key w told = go (nobody k) (account_of s.home.accounts k) w refl
     where
       go : (b : Bool) (a : Account) (w : Bool) → account_of s.home.accounts k ≡ a
-          → Tied c n K (suc p) (with_home (home_accounts (changed s.home.accounts k (Open key) (cond b (Refused Unknown) (opened_from a w))) s.home) s) ls gs bs ds xs
+          → Tied c n K (suc p) (with_home (home_accounts (changed s.home.accounts k (Open key) (cond b (Err Unknown) (opened_from a w))) s.home) s) ls gs bs ds xs
       go true a w e = same-accounts
       go false Absent true e = open-account k key told e
       go false Absent false e = same-accounts
@@ -204,7 +204,7 @@ module _ (c : Setting) (n : Naming c.own) {K : List Closing} {p : ℕ} {s : Syst
   closes-one k w = go (nobody k) (account_of s.home.accounts k) w refl refl
     where
       go : (b : Bool) (a : Account) (w : Bool) → nobody k ≡ b → account_of s.home.accounts k ≡ a
-          → Tied c n K (suc p) (with_home (home_accounts (changed s.home.accounts k (closed_of a) (cond b (Refused Unknown) (shut_from a w))) s.home) s) ls gs bs ds xs
+          → Tied c n K (suc p) (with_home (home_accounts (changed s.home.accounts k (closed_of a) (cond b (Err Unknown) (shut_from a w))) s.home) s) ls gs bs ds xs
       go true a w d e = same-accounts
       go false Absent w d e = same-accounts
       go false (Open x) true d e = close-account k x d e

@@ -1,5 +1,5 @@
 -- What the house and the services hear: logins, askings for tickets, askings to services. Assumes nothing.
-use Rattle.std.proofs.Common.{◌≡◌, ℕ, suc, ◌+◌, ◌<◌, Bool, true, false, cond, eqb, ◌⊎◌, List, [], ◌∷◌, ◌++◌, length, Some, None, Option, sym, refl, ap, ◌∙◌, subst, inl, inr, arith, eq-eqb, eqb-true}
+use Rattle.std.proofs.Common.{◌≡◌, ℕ, suc, ◌+◌, ◌<◌, Bool, true, false, cond, eqb, ◌⊎◌, List, [], ◌∷◌, ◌++◌, length, Some, None, Option, sym, refl, ap, ◌∙◌, subst, inl, inr, arith, eq-eqb, eqb-true, Err}
 use mathlib.Core.List.Memᴰ
 use mathlib.Core.List.{Memᴰ}
 use Rattle.parts.specs.Condition.{first_fault, unless}
@@ -13,14 +13,12 @@ use Rattle.parts.specs.declared.word.Login.{Login}
 use Rattle.service_rules.specs.Memory.{recorded}
 use Rattle.service_rules.specs.Service.{View}
 use Rattle.service_rules.specs.Service as service
-use Rattle.service_rules.specs.declared.answer.Answer.TheVariants.{Done as Did, Refused as NotDone}
 use Rattle.house_rules.specs.Account.{own_key}
 use Rattle.house_rules.specs.Fresh.{fresh_of}
 use Rattle.house_rules.specs.Give.{giving}
 use Rattle.house_rules.specs.House.{Home, until_of, readable, wanted}
 use Rattle.house_rules.specs.House as house
-use Rattle.house_rules.specs.declared.reply.Reply.{Reply}
-use Rattle.house_rules.specs.declared.reply.Reply.TheVariants.{Refused}
+use Rattle.house_rules.specs.Give.{Reply}
 use Rattle.tickets.specs.Term.{Term, Num, Own, Gets, even}
 use Rattle.tickets.specs.State.{Closing, Key, Done, State, Safe}
 use Rattle.tickets.specs.Event.{Event, Body, after, Reach, ticket, letter_of, new_key, new_done}
@@ -94,7 +92,7 @@ module _ (c : Setting) (n : Naming c.own) {K : List Closing} {p : ℕ} {s : Syst
   logs-in a l h there = go (first_fault (house.login_conditions s.home a l)) refl h.new
     where
       R : Option Fault → Reply
-      R f = unless f (giving (until_of s.home) s.home.left (house.login_given s.home a l)) Refused
+      R f = unless f (giving (until_of s.home) s.home.left (house.login_given s.home a l)) Err
 
       granted : first_fault (house.login_conditions s.home a l) ≡ None → n.name (fresh_of s.home.left).key.0 ≡ even (suc (length s.used))
           → Tied c n K (suc p)
@@ -183,7 +181,7 @@ module _ (c : Setting) (n : Naming c.own) {K : List Closing} {p : ℕ} {s : Syst
   asks-house tk q h there = go (readable q) (first_fault (house.conditions s.home tk q (c.digest tk.key q.number))) refl h.new
     where
       R : Bool → Option Fault → Reply
-      R b f = cond b (unless f (house.granted s.home tk q) Refused) (Refused BadInside)
+      R b f = cond b (unless f (house.granted s.home tk q) Err) (Err BadInside)
 
       refused : Tied c n K (suc p) (with_home s.home s) ls gs bs ds xs
       refused = unseen c n o _ (matches-home c n s o.model s.home o.matches o.matches.home)
@@ -310,8 +308,8 @@ module _ (c : Setting) (n : Naming c.own) {K : List Closing} {p : ℕ} {s : Syst
 
       done : first_fault (service.conditions (s.side v) tk q (c.digest tk.key q.number)) ≡ None
           → Tied c n K (suc p)
-          (with_sent (answer_sent n.name (Did (service.deed_of tk q) (service.receipt_of (s.side v) tk q))) [] (with-side v (service.done_by (s.side v) (c.digest tk.key q.number)) s))
-          ls gs bs (deed_told (Did (service.deed_of tk q) (service.receipt_of (s.side v) tk q)) p v (s.side v).side.now s.stolen ++ ds) xs
+          (with_sent (answer_sent n.name (service.done (service.deed_of tk q) (service.receipt_of (s.side v) tk q))) [] (with-side v (service.done_by (s.side v) (c.digest tk.key q.number)) s))
+          ls gs bs (deed_told (service.done (service.deed_of tk q) (service.receipt_of (s.side v) tk q)) p v (s.side v).side.now s.stolen ++ ds) xs
       done e =
           record {
             events = ev ∷ o.events;
@@ -409,8 +407,8 @@ module _ (c : Setting) (n : Naming c.own) {K : List Closing} {p : ℕ} {s : Syst
 
       go : (f : Option Fault) → first_fault (service.conditions (s.side v) tk q (c.digest tk.key q.number)) ≡ f
           → Tied c n K (suc p)
-          (with_sent (answer_sent n.name (unless f (Did (service.deed_of tk q) (service.receipt_of (s.side v) tk q)) NotDone)) []
+          (with_sent (answer_sent n.name (unless f (service.done (service.deed_of tk q) (service.receipt_of (s.side v) tk q)) Err)) []
           (with-side v (unless f (service.done_by (s.side v) (c.digest tk.key q.number)) (λ _. s.side v)) s))
-          ls gs bs (deed_told (unless f (Did (service.deed_of tk q) (service.receipt_of (s.side v) tk q)) NotDone) p v (s.side v).side.now s.stolen ++ ds) xs
+          ls gs bs (deed_told (unless f (service.done (service.deed_of tk q) (service.receipt_of (s.side v) tk q)) Err) p v (s.side v).side.now s.stolen ++ ds) xs
       go None e = done e
       go (Some f) e = unseen c n o _ (matches-side c n s o.model v (s.side v) o.matches (λ _. ok))

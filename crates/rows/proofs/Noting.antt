@@ -9,8 +9,8 @@ use Rattle.parts.specs.declared.word.Key.{Key}
 use Rattle.parts.specs.declared.word.Number.{Number}
 use Rattle.service_rules.specs.Memory.{live_of, stands, recorded}
 use Rattle.held.specs.Crash.{reread, rejunk, fits}
-use Rattle.held.specs.declared.memory.Cut.{Cut}
-use Rattle.held.specs.declared.memory.Cut.TheVariants.{Junk, New, Old}
+use Rattle.held.specs.declared.cut.Cut.{Cut}
+use Rattle.held.specs.declared.cut.Cut.TheVariants.{Junk, New, Old}
 use Rattle.tickets.specs.State.{Done, State}
 use Rattle.tickets.specs.Event.{DoneBefore}
 use Rattle.tickets.proofs.Bools.{clash, or_left, or_right}
@@ -120,7 +120,7 @@ notes-done c n m t v wake junk junk' es new k x same awake cases ek ex at notes 
         old (inr p) = absurd (let q = p.0 in omega arith)
 
 -- a side that crashed and starts again: what it reads again covers what was done, or it waits
-pub notes-crash : (c : Setting) (n : Naming c.own) (m : State) (v wake : ℕ) (junk : Bool) (es : List Entry) (cut : Cut) → ((d : Done) → Memᴰ d m.done → d.at ≤ m.now)
+pub notes-crash : (c : Setting) (n : Naming c.own) (m : State) (v wake : ℕ) (junk : Bool) (es : List Entry) (cut : Cut ℕ) → ((d : Done) → Memᴰ d m.done → d.at ≤ m.now)
     → Writing cut m.now wake → Notes c n m v wake junk es
     → Notes c n m v (cond (rejunk m.now c.lag cut es junk) (m.now + c.lag + 1) 0) (rejunk m.now c.lag cut es junk) (reread m.now c.lag cut es)
 notes-crash c n m v wake junk es Old past w notes = record { of = λ d h e r. go d (past d h) (notes.of d h e r) }
@@ -145,7 +145,7 @@ notes-crash c n m v wake junk es Junk past w notes = record { of = λ d h e r. g
     go d r (inr q) = absurd (let p = q.0 in omega arith)
 
 -- the same where it does not start again, and so waits as before
-notes-reread : (c : Setting) (n : Naming c.own) (m : State) (v wake : ℕ) (junk : Bool) (es : List Entry) (cut : Cut) → Writing cut m.now wake → Notes c n m v wake junk es
+notes-reread : (c : Setting) (n : Naming c.own) (m : State) (v wake : ℕ) (junk : Bool) (es : List Entry) (cut : Cut ℕ) → Writing cut m.now wake → Notes c n m v wake junk es
     → Notes c n m v wake (rejunk m.now c.lag cut es junk) (reread m.now c.lag cut es)
 notes-reread c n m v wake junk es Old w notes = notes
 notes-reread c n m v wake junk es (New dg) w notes = by (fits m.now c.lag es)
@@ -164,7 +164,7 @@ notes-reread c n m v wake junk es Junk w notes = record { of = λ d h e r. go d 
     go d r (inr q) = inr (q.0, refl)
 
 -- both, at the side's own tick and lag
-pub notes-again : (c : Setting) (n : Naming c.own) (m : State) (v wake now lag : ℕ) (junk : Bool) (es : List Entry) (cut : Cut) → now ≡ m.now → lag ≡ c.lag
+pub notes-again : (c : Setting) (n : Naming c.own) (m : State) (v wake now lag : ℕ) (junk : Bool) (es : List Entry) (cut : Cut ℕ) → now ≡ m.now → lag ≡ c.lag
     → ((d : Done) → Memᴰ d m.done → d.at ≤ m.now) → Writing cut now wake → Notes c n m v wake junk es
     → Notes c n m v (cond (rejunk now lag cut es junk) (now + lag + 1) 0) (rejunk now lag cut es junk) (reread now lag cut es)
     × Notes c n m v wake (rejunk now lag cut es junk) (reread now lag cut es)

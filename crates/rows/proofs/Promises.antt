@@ -5,7 +5,8 @@ use mathlib.Core.List.{Memᴰ}
 use Rattle.parts.specs.declared.account.Account.{Account}
 use Rattle.parts.specs.declared.account.Account.TheVariants.{Absent}
 use Rattle.service_rules.specs.Service.{nobody}
-use Rattle.house_rules.specs.Account.{account_of, is_absent, is_closed as is_shut}
+use Rattle.house_rules.specs.Account.{account_of}
+use Rattle.parts.specs.Account.{is_absent, is_closed as is_shut}
 use Rattle.tickets.specs.Term.{Term, Gets}
 use Rattle.tickets.specs.State.{Line, LoggingIn, Done, Closing, State, Safe, is_in, is_closed, start}
 use Rattle.tickets.specs.Event.{Event, Reach}

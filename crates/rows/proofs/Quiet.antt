@@ -7,7 +7,7 @@ use Rattle.service_rules.specs.Service.{View, view}
 use Rattle.service_rules.specs.Side.{unfit}
 use Rattle.service_rules.specs.declared.side.Side.{Side}
 use Rattle.parts.specs.declared.fault.Fault.TheVariants.{OutOfRange}
-use Rattle.held.specs.declared.memory.Cut.{Cut}
+use Rattle.held.specs.declared.cut.Cut.{Cut}
 use Rattle.house_rules.specs.House.{Home}
 use Rattle.tickets.specs.Term.{Term, Own}
 use Rattle.tickets.specs.State.{Done, Closing, State}
@@ -122,7 +122,7 @@ module _ (c : Setting) (n : Naming c.own) where
     restart v x es j true a e f new old w left = record { now_is = a; lag_is = e; number_is = f; notes = old }
     restart v x es j false a e f new old w left = record { now_is = a; lag_is = e; number_is = f; notes = new }
 
-    pub crash-service : (v : ℕ) (cut : Cut) → Writing cut (s.side v).side.now (s.side v).side.wake → Tied c n K (suc p) (with-side v (crashed_view cut (s.side v)) s) ls gs bs ds xs
+    pub crash-service : (v : ℕ) (cut : Cut ℕ) → Writing cut (s.side v).side.now (s.side v).side.wake → Tied c n K (suc p) (with-side v (crashed_view cut (s.side v)) s) ls gs bs ds xs
     crash-service v cut w = unseen c n o _ (matches-side s o.model v _ o.matches (λ z. ok (o.matches.side v z)))
       where
         ok : SideOk c n o.model v (s.side v) → SideOk c n o.model v (crashed_view cut (s.side v))
@@ -133,7 +133,7 @@ module _ (c : Setting) (n : Naming c.own) where
             restart v (s.side v).side (crashed_view cut (s.side v)).kept (crashed_view cut (s.side v)).junk
             (unfit (s.side v).side.lag (s.side v).side.now (crashed_view cut (s.side v)).kept) k.now_is k.lag_is k.number_is both.0 both.1 (s.side v).writes (s.side v).left
 
-    pub crash-house : (cut : Cut) → Writing cut s.home.side.now s.home.side.wake → Tied c n K (suc p) (with_home (crashed_home cut s.home) s) ls gs bs ds xs
+    pub crash-house : (cut : Cut ℕ) → Writing cut s.home.side.now s.home.side.wake → Tied c n K (suc p) (with_home (crashed_home cut s.home) s) ls gs bs ds xs
     crash-house cut w = unseen c n o _ (matches-home s o.model _ o.matches ok)
       where
         k : HomeOk c n o.model s.home

@@ -1,5 +1,5 @@
 -- What box, house and service answer to the six acts, each by its own definitions. Assumes nothing.
-use Rattle.std.proofs.Common.{◌≡◌, ℕ, ◌+◌, ◌-◌, ◌*◌, ◌^◌, ◌<◌, ◌≤◌, Bool, true, false, cond, not, ◌&&◌, ◌||◌, eqb, ltb, leb, ◌⊎◌, List, [], ◌∷◌, length, get_or, is_some, Some, None, Option, sym, refl, ap, ◌∙◌, inl, inr, arith}
+use Rattle.std.proofs.Common.{◌≡◌, ℕ, ◌+◌, ◌-◌, ◌*◌, ◌^◌, ◌<◌, ◌≤◌, Bool, true, false, cond, not, ◌&&◌, ◌||◌, eqb, ltb, leb, ◌⊎◌, List, [], ◌∷◌, length, get_or, is_some, Some, None, Option, sym, refl, ap, ◌∙◌, inl, inr, arith, Err, Ok}
 use mathlib.Core.List.{Memᴰ}
 use Rattle.std.proofs.lemmas.Bool.{le-ltb, le-leb, lt-leb, eq-eqb, ne_eqb, or_from, and_from, and_right, not_from_true, cond-false}
 use Rattle.std.specs.Str.{bytes_eq}
@@ -20,13 +20,12 @@ use Rattle.service_rules.specs.Memory.{live_of, stands}
 use Rattle.service_rules.specs.Service.{View, nobody}
 use Rattle.service_rules.specs.Service as service
 use Rattle.service_rules.specs.Side.{waiting}
-use Rattle.service_rules.specs.declared.answer.Answer.TheVariants.{Done, Refused}
-use Rattle.house_rules.specs.Account.{account_of, is_absent, closed, unknown, own_key}
+use Rattle.house_rules.specs.Account.{account_of, closed, unknown, own_key}
+use Rattle.parts.specs.Account.{is_absent}
 use Rattle.house_rules.specs.Give.{giving}
 use Rattle.house_rules.specs.House.{Home, until_of, wanted, missing, misled, readable}
 use Rattle.house_rules.specs.House as house
 use Rattle.house_rules.specs.declared.give.Given.{Given}
-use Rattle.house_rules.specs.declared.reply.Reply.TheVariants.{Refused as NotGranted}
 use Rattle.box_rules.specs.Chest.{asked, asking_of, two_bytes}
 use Rattle.box_rules.specs.Table.{matches, oldest, older}
 use Rattle.box_rules.specs.Line as line
@@ -71,10 +70,10 @@ line_clear b v e h =
     (none-cons _ _ _ (le-ltb (length b.left) 32 h) first_fault-nil)))
 
 pub line-answer : (b : Box) (v : ℕ) (w : What) → nobody v ≡ false → w.len ≤ 1024 → b.lines < 2 ^ 64 - 1 → 32 ≤ length b.left
-    → line.wanted b v None w ≡ told.LogsIn (line.login_of b)
+    → line.wanted b v None w ≡ Ok (told.LogsIn (line.login_of b))
 line-answer b v w e h k l =
-    cond-false (line.unread b.lines v w) (told.Wrong OutOfRange) (unless (first_fault (line.line_conditions b v None)) (told.LogsIn (line.login_of b)) told.Wrong) (unread-no b.lines v w e h k)
-    ∙ unless-none (first_fault (line.line_conditions b v None)) (told.LogsIn (line.login_of b)) told.Wrong (line_clear b v e l)
+    cond-false (line.unread b.lines v w) (Err OutOfRange) (unless (first_fault (line.line_conditions b v None)) (Ok (told.LogsIn (line.login_of b))) Err) (unread-no b.lines v w e h k)
+    ∙ unless-none (first_fault (line.line_conditions b v None)) (Ok (told.LogsIn (line.login_of b))) Err (line_clear b v e l)
 
 pub line_after : (b : Box) (v : ℕ) (w : What) → nobody v ≡ false → w.len ≤ 1024 → b.lines < 2 ^ 64 - 1 → 32 ≤ length b.left
     → line.wanted_after b v None w ≡ line.logged_in (line.counted b) (line.line_of b v w)
@@ -94,7 +93,7 @@ login-clear h a l known open' e d w =
 
 pub login-answer : (h : Home) (a : ℕ) (l : Login) → unknown h.accounts a ≡ false → closed h.accounts a ≡ false → l.tick ≡ h.side.now → 64 ≤ length h.left → waiting h.side ≡ false
     → house.logged_in h a l ≡ giving (until_of h) h.left (house.login_given h a l)
-login-answer h a l known open' e d w = unless-none (first_fault (house.login_conditions h a l)) (giving (until_of h) h.left (house.login_given h a l)) NotGranted (login-clear h a l known open' e d w)
+login-answer h a l known open' e d w = unless-none (first_fault (house.login_conditions h a l)) (giving (until_of h) h.left (house.login_given h a l)) Err (login-clear h a l known open' e d w)
 
 pub login-after : (h : Home) (a : ℕ) (l : Login) → unknown h.accounts a ≡ false → closed h.accounts a ≡ false → l.tick ≡ h.side.now → 64 ≤ length h.left → waiting h.side ≡ false
     → house.login_after h a l ≡ house.drew h
@@ -108,9 +107,9 @@ letter-clear b u l p e d t =
     (none-cons _ _ _ (lt-leb (2 ^ 64 - 1) b.taken t) first_fault-nil))
 
 pub letter-answer : (b : Box) (u : Under) (l : Letter) (p : Pending) → letter.pending_for b u l ≡ Some p → 32 ≤ length b.left → b.taken < 2 ^ 64 - 1
-    → letter.taken b u l ≡ told.Takes (record { id = b.taken + 1; service = l.service; until = l.until }) (asking_of b l.key l.service p.line)
+    → letter.taken b u l ≡ Ok (told.Takes (record { id = b.taken + 1; service = l.service; until = l.until }) (asking_of b l.key l.service p.line))
 letter-answer b u l p e d t =
-    unless-none (first_fault (letter.letter_conditions b u l)) (letter.taken_by b l (letter.pending_for b u l)) told.Wrong (letter-clear b u l p e d t)
+    unless-none (first_fault (letter.letter_conditions b u l)) (letter.taken_by b l (letter.pending_for b u l)) Err (letter-clear b u l p e d t)
     ∙ ap (λ (o : Option Pending). letter.taken_by b l o) e
 
 pub letter-after : (b : Box) (u : Under) (l : Letter) (p : Pending) → letter.pending_for b u l ≡ Some p → 32 ≤ length b.left → b.taken < 2 ^ 64 - 1
@@ -196,7 +195,7 @@ given_for h a v k m t = record { service = v; reader = a; number = m; asked = t;
 pub house-answer : (h : Home) (a v : ℕ) (k : Key) (m : Number) (until t d : ℕ) → HouseFine h a v until t d
     → house.answered h (house_t a k until) (house_q v m t) d ≡ giving (until_of h) h.left (given_for h a v k m t)
 house-answer h a v k m until t d f =
-    unless-none (first_fault (house.conditions h (house_t a k until) (house_q v m t) d)) (giving (until_of h) h.left (house.asked_given h (house_t a k until) (house_q v m t))) NotGranted (house-clear h a v k m until t d f)
+    unless-none (first_fault (house.conditions h (house_t a k until) (house_q v m t) d)) (giving (until_of h) h.left (house.asked_given h (house_t a k until) (house_q v m t))) Err (house-clear h a v k m until t d f)
     ∙ ap (λ (x : ℕ). giving (until_of h) h.left (given_for h a x k m t)) (two_bytes_lem v)
 
 pub house-after : (h : Home) (a v : ℕ) (k : Key) (m : Number) (until t d : ℕ) → HouseFine h a v until t d
@@ -237,6 +236,6 @@ service-clear u a v k m w until t d f =
     (none-cons _ _ _ (not_from_true u.writes f.writes) first_fault-nil))))))))
 
 pub service-answer : (u : View) (a v : ℕ) (k : Key) (m : Number) (w : What) (until t d : ℕ) → ServiceFine u a v until t d
-    → service.answered u (service_t a v k until) (service_q v m w t) d ≡ Done (service.deed_of (service_t a v k until) (service_q v m w t)) (service.receipt_of u (service_t a v k until) (service_q v m w t))
+    → service.answered u (service_t a v k until) (service_q v m w t) d ≡ service.done (service.deed_of (service_t a v k until) (service_q v m w t)) (service.receipt_of u (service_t a v k until) (service_q v m w t))
 service-answer u a v k m w until t d f =
-    unless-none (first_fault (service.conditions u (service_t a v k until) (service_q v m w t) d)) (Done (service.deed_of (service_t a v k until) (service_q v m w t)) (service.receipt_of u (service_t a v k until) (service_q v m w t))) Refused (service-clear u a v k m w until t d f)
+    unless-none (first_fault (service.conditions u (service_t a v k until) (service_q v m w t) d)) (service.done (service.deed_of (service_t a v k until) (service_q v m w t)) (service.receipt_of u (service_t a v k until) (service_q v m w t))) Err (service-clear u a v k m w until t d f)

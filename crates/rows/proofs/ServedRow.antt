@@ -1,5 +1,5 @@
 -- Six acts upon any row that can happen, and whoever is ready is served. Assumes nothing.
-use Rattle.std.proofs.Common.{◌≡◌, ℕ, suc, ◌+◌, ◌≤◌, Bool, false, cond, ◌&&◌, eqb, ltb, List, [], ◌∷◌, ◌++◌, length, take, drop, Some, None, sym, refl, ap, ◌∙◌, subst, arith, length-drop}
+use Rattle.std.proofs.Common.{◌≡◌, ℕ, suc, ◌+◌, ◌≤◌, Bool, false, cond, ◌&&◌, eqb, ltb, List, [], ◌∷◌, ◌++◌, length, take, drop, Some, None, sym, refl, ap, ◌∙◌, subst, arith, length-drop, Ok}
 use mathlib.Core.List.{Memᴰ}
 use Rattle.std.proofs.lemmas.Bool.{eq-eqb, eqb-false, and_left, and_right, and_from, cond-true}
 use Rattle.std.specs.Str.{bytes_eq}
@@ -14,18 +14,18 @@ use Rattle.parts.specs.declared.word.Ticket.{Ticket}
 use Rattle.parts.specs.declared.word.What.{What}
 use Rattle.service_rules.specs.Service.{View, nobody}
 use Rattle.service_rules.specs.Service as service
-use Rattle.service_rules.specs.declared.answer.Answer.{Answer}
-use Rattle.service_rules.specs.declared.answer.Answer.TheVariants.{Done}
+use Rattle.service_rules.specs.Service.{Answer}
 use Rattle.service_rules.specs.declared.side.Side.{Side}
-use Rattle.house_rules.specs.Account.{account_of, is_absent, own_key}
+use Rattle.house_rules.specs.Account.{account_of, own_key}
+use Rattle.parts.specs.Account.{is_absent}
 use Rattle.house_rules.specs.Give.{giving}
 use Rattle.house_rules.specs.House.{Home, until_of}
 use Rattle.house_rules.specs.House as house
-use Rattle.house_rules.specs.declared.reply.Reply.{Reply}
+use Rattle.house_rules.specs.Give.{Reply}
 use Rattle.box_rules.specs.Chest.{asked, asking_of, two_bytes}
 use Rattle.box_rules.specs.Line as line
 use Rattle.box_rules.specs.Letter as letter
-use Rattle.box_rules.specs.declared.answer.Answer as Told
+use Rattle.box_rules.specs.Line.{Told}
 use Rattle.box_rules.specs.declared.answer.Answer.TheVariants as told
 use Rattle.box_rules.specs.declared.line.Line.{Line}
 use Rattle.box_rules.specs.declared.line.Sought.TheVariants.{AtHouse, Login as ByNumber}
@@ -55,14 +55,14 @@ record Looks (a : ℕ) (s : System) (h : Home) (b : Box) (air : List Term) (used
 
 module _ (name : Bytes → Term) (a : ℕ) where
   -- a box, or the house, answers
-  box-looks : {s : System} {h : Home} {b : Box} {air : List Term} {used : List Bytes} → Looks a s h b air used → {r r' : Told.Answer} → r ≡ r' → {x x' : Box} → x ≡ x'
+  box-looks : {s : System} {h : Home} {b : Box} {air : List Term} {used : List Bytes} → Looks a s h b air used → {r r' : Told} → r ≡ r' → {x x' : Box} → x ≡ x'
       → Looks a (with_sent (told_sent name r) (told_drawn r) (with_box a x s)) h x' (told_sent name r' ++ air) (told_drawn r' ++ used)
   box-looks {s} l {r} {r'} p {x} q =
       record {
         home = l.home;
         box = at_here a x s.box ∙ q;
-        air-is = ap (λ (y : Told.Answer). told_sent name y ++ s.air) p ∙ ap (λ (y : List Term). told_sent name r' ++ y) l.air-is;
-        used-is = ap (λ (y : Told.Answer). told_drawn y ++ s.used) p ∙ ap (λ (y : List Bytes). told_drawn r' ++ y) l.used-is;
+        air-is = ap (λ (y : Told). told_sent name y ++ s.air) p ∙ ap (λ (y : List Term). told_sent name r' ++ y) l.air-is;
+        used-is = ap (λ (y : Told). told_drawn y ++ s.used) p ∙ ap (λ (y : List Bytes). told_drawn r' ++ y) l.used-is;
       }
 
   home-looks : {s : System} {h : Home} {b : Box} {air : List Term} {used : List Bytes} → Looks a s h b air used → {r r' : Reply} → r ≡ r' → {x x' : Home} → x ≡ x'
@@ -211,7 +211,7 @@ module _ (c : Setting) (n : Naming c.own) (s : System) (a v : ℕ) (w : What) wh
     home-drawn = let e = length-drop 64 h.left in let d = r.house_at_work.drawn in omega arith
 
     -- 1: the line
-    wanted₁ : line.wanted b v None w ≡ told.LogsIn (line.login_of b)
+    wanted₁ : line.wanted b v None w ≡ Ok (told.LogsIn (line.login_of b))
     wanted₁ = line-answer b v w service-there r.words r.box_at_work.lines (let d = r.box_at_work.drawn in omega arith)
 
     looks₁ : Looks a s₁ h b₁ air₁ used₁
@@ -220,7 +220,7 @@ module _ (c : Setting) (n : Naming c.own) (s : System) (a v : ℕ) (w : What) wh
         (line_after b v w service-there r.words r.box_at_work.lines (let d = r.box_at_work.drawn in omega arith))
 
     can₁ : Can c n s (wants a v None w)
-    can₁ = record { reader = r.reader; new = subst (λ (x : Told.Answer). New c n s (told_drawn x)) (sym wanted₁) r.draws.0 }
+    can₁ = record { reader = r.reader; new = subst (λ (x : Told). New c n s (told_drawn x)) (sym wanted₁) r.draws.0 }
 
     -- 2: the login
     logged₂ : house.logged_in s₁.home a login₁ ≡ giving (until_of h) h.left (house.login_given h a login₁)
@@ -252,7 +252,7 @@ module _ (c : Setting) (n : Naming c.own) (s : System) (a v : ℕ) (w : What) wh
         (below-take c n (length s.used) 15 b.logins (o.boxes a).logins) r.draws.0 (omega arith))
 
     taken₃ : letter.taken (s₂.box a) OwnKey letter₁
-        ≡ told.Takes (record { id = b.taken + 1; service = 0; until = until_of h }) (asking_of b₁ k₁ 0 the_line)
+        ≡ Ok (told.Takes (record { id = b.taken + 1; service = 0; until = until_of h }) (asking_of b₁ k₁ 0 the_line))
     taken₃ =
         ap (λ (x : Box). letter.taken x OwnKey letter₁) looks₂.box
         ∙ letter-answer b₁ OwnKey letter₁ _ pending₃ drawn₂ (let d = r.box_at_work.tickets in omega arith)
@@ -271,7 +271,7 @@ module _ (c : Setting) (n : Naming c.own) (s : System) (a v : ℕ) (w : What) wh
               subst (λ (x : List Term). Gets x (letter_term n.name (s₂.box a).key letter₁)) (sym looks₂.air-is)
               (has (Memᴰ.tail (Memᴰ.head (ap (λ (k : Key). letter_term n.name k letter₁) (ap (λ (x : Box). x.key) looks₂.box ∙ sym own-a)))));
           new =
-              subst (λ (x : Told.Answer). New c n s₂ (told_drawn x)) (sym taken₃)
+              subst (λ (x : Told). New c n s₂ (told_drawn x)) (sym taken₃)
               (subst (λ (x : List Bytes). n.name m₂.0 ≡ even (suc (length x))) (sym looks₂.used-is) r.draws.1.1.0);
         }
 
@@ -330,7 +330,7 @@ module _ (c : Setting) (n : Naming c.own) (s : System) (a v : ℕ) (w : What) wh
         (below-take c n (length s.used) 15 b.askings (o.boxes a).askings) r.draws.1.1.0 (omega arith) p m))))
 
     taken₅ : letter.taken (s₄.box a) (Session k₁) letter₂
-        ≡ told.Takes (record { id = b.taken + 1 + 1; service = v; until = until_of h }) (asking_of b₂ k₂ v the_line)
+        ≡ Ok (told.Takes (record { id = b.taken + 1 + 1; service = v; until = until_of h }) (asking_of b₂ k₂ v the_line))
     taken₅ =
         ap (λ (x : Box). letter.taken x (Session k₁) letter₂) looks₄.box
         ∙ letter-answer b₂ (Session k₁) letter₂ _ pending₅ drawn₃ r.box_at_work.tickets
@@ -342,7 +342,7 @@ module _ (c : Setting) (n : Naming c.own) (s : System) (a v : ℕ) (w : What) wh
 
     air-is₅ : s₅.air ≡ air₅
     air-is₅ =
-        ap (λ (x : Told.Answer). told_sent n.name x ++ s₄.air) taken₅
+        ap (λ (x : Told). told_sent n.name x ++ s₄.air) taken₅
         ∙ (ap (λ (x : Asking). asking_term n.name k₂ x ∷ s₄.air) asking₅
         ∙ ap (λ (x : List Term). asking_term n.name k₂ asking₂ ∷ x) looks₄.air-is)
 
@@ -354,7 +354,7 @@ module _ (c : Setting) (n : Naming c.own) (s : System) (a v : ℕ) (w : What) wh
               subst (λ (x : List Term). Gets x (letter_term n.name k₁ letter₂)) (sym looks₄.air-is)
               (has (Memᴰ.tail (Memᴰ.head refl)));
           new =
-              subst (λ (x : Told.Answer). New c n s₄ (told_drawn x)) (sym taken₅)
+              subst (λ (x : Told). New c n s₄ (told_drawn x)) (sym taken₅)
               (subst (λ (x : List Bytes). n.name m₃.0 ≡ even (suc (length x))) (sym looks₄.used-is) r.draws.1.1.1.1.0);
         }
 
@@ -377,7 +377,7 @@ module _ (c : Setting) (n : Naming c.own) (s : System) (a v : ℕ) (w : What) wh
         }
 
     answered₆ : service.answered (s₅.side v) ticket₂ asking₂ digest₂
-        ≡ Done (service.deed_of ticket₂ asking₂) (service.receipt_of (s.side v) ticket₂ asking₂)
+        ≡ service.done (service.deed_of ticket₂ asking₂) (service.receipt_of (s.side v) ticket₂ asking₂)
     answered₆ = service-answer (s.side v) a v k₂ m₃ w (until_of h) b.now digest₂ fine₆
 
     can₆ : Can c n s₅ (asks v ticket₂ asking₂)
@@ -432,7 +432,7 @@ module _ (c : Setting) (n : Naming c.own) (s : System) (a v : ℕ) (w : What) wh
 
     line-told : (p : ℕ) → line_told (line.wanted b v None w) (record { place = p; reader = a; service = v; what = words_of w; at = b.now }) ≡ wanted_line s p a v w ∷ []
     line-told p =
-        ap (λ (x : Told.Answer). line_told x (record { place = p; reader = a; service = v; what = words_of w; at = b.now })) wanted₁
+        ap (λ (x : Told). line_told x (record { place = p; reader = a; service = v; what = words_of w; at = b.now })) wanted₁
         ∙ ap (λ (t : ℕ). line_at p t) (o.boxes a).now_is
 
     abbrev deed_at : (p t : ℕ) → List Deed

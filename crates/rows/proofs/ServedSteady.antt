@@ -17,18 +17,19 @@ use Rattle.parts.specs.declared.word.What.{What}
 use Rattle.service_rules.specs.Service.{View, view, nobody}
 use Rattle.service_rules.specs.Service as service
 use Rattle.service_rules.specs.Side.{on_tick, set_tick}
-use Rattle.held.specs.declared.memory.Cut.{Cut}
+use Rattle.held.specs.declared.cut.Cut.{Cut}
 use Rattle.service_rules.specs.declared.side.Side.{Side}
-use Rattle.house_rules.specs.Account.{account_of, is_absent, key_in, unknown, own_key}
+use Rattle.house_rules.specs.Account.{account_of, unknown, own_key}
+use Rattle.parts.specs.Account.{is_absent, key_in}
 use Rattle.house_rules.specs.Change.{changed, opened, opened_after, shut, shut_after, closed_of}
-use Rattle.house_rules.specs.declared.change.Changed.{Changed}
-use Rattle.house_rules.specs.declared.change.Changed.TheVariants.{Done, Refused, Same}
+use Rattle.house_rules.specs.Change.{Answer as Changed}
+use Rattle.house_rules.specs.declared.change.Changed.TheVariants.{Done, Same}
 use Rattle.house_rules.specs.House.{Home, readable}
 use Rattle.house_rules.specs.House as house
 use Rattle.box_rules.specs.Line as line
 use Rattle.box_rules.specs.Letter as letter
 use Rattle.box_rules.specs.Table.{without}
-use Rattle.box_rules.specs.declared.answer.Answer as Told
+use Rattle.box_rules.specs.Line.{Told}
 use Rattle.box_rules.specs.declared.answer.Answer.TheVariants as told
 use Rattle.box_rules.specs.declared.line.Pass.{Pass}
 use Rattle.box_rules.specs.declared.line.Pending.{Pending}
@@ -97,10 +98,10 @@ restart-number : (x : Side) (j : Bool) (w : ℕ) → (restarted x (cond j (Err O
 restart-number x true w = refl
 restart-number x false w = refl
 
-crash-now : (cut : Cut) (w : View) → (crashed_view cut w).side.now ≡ w.side.now
+crash-now : (cut : Cut ℕ) (w : View) → (crashed_view cut w).side.now ≡ w.side.now
 crash-now cut w = restart-now w.side _ _
 
-crash-number : (cut : Cut) (w : View) → (crashed_view cut w).side.number ≡ w.side.number
+crash-number : (cut : Cut ℕ) (w : View) → (crashed_view cut w).side.number ≡ w.side.number
 crash-number cut w = restart-number w.side _ _
 
 -- an account that is written stands at its number only
@@ -194,15 +195,15 @@ module _ (c : Setting) (n : Naming c.own) where
   newest : (s : System) (x : Bytes) → n.name x ≡ even (suc (length s.used)) → (i : ℕ) × (n.name x ≡ even i) × (i ≤ suc (length s.used))
   newest s x e = (suc (length s.used), e, omega arith)
 
-  abbrev Keeps : System → ℕ → Told.Answer → Box → Type 0
+  abbrev Keeps : System → ℕ → Told → Box → Type 0
   Keeps s a r b = New c n s (told_drawn r) → BoxSteady s.home.side.now (length (told_drawn r ++ s.used)) a b
 
   -- a line, and a letter, leave a box steady
   line-keeps : (s : System) (a v : ℕ) (by : Option ℕ) (w : What) (b : Box) → BoxSteady s.home.side.now (length s.used) a b
       → Keeps s a (line.wanted b v by w) (line.wanted_after b v by w)
   line-keeps s a v by w b o =
-      cond_both (Keeps s a) (line.unread b.lines v w) (told.Wrong OutOfRange) _ b _ (λ _. o)
-      (unless-both (Keeps s a) (first_fault (line.line_conditions b v by)) (line.sent_by b (line.pass_by by b.tickets) (line.line_of b v w)) told.Wrong (line.sent_after b (line.pass_by by b.tickets) (line.line_of b v w)) (λ _. b) (go (line.pass_by by b.tickets)) (λ _ _. o))
+      cond_both (Keeps s a) (line.unread b.lines v w) (Err OutOfRange) _ b _ (λ _. o)
+      (unless-both (Keeps s a) (first_fault (line.line_conditions b v by)) (line.sent_by b (line.pass_by by b.tickets) (line.line_of b v w)) Err (line.sent_after b (line.pass_by by b.tickets) (line.line_of b v w)) (λ _. b) (go (line.pass_by by b.tickets)) (λ _ _. o))
     where
       up : BoxSteady s.home.side.now (suc (length s.used)) a b
       up = box-used s.home.side.now (length s.used) (suc (length s.used)) a b (omega arith) o
@@ -226,7 +227,7 @@ module _ (c : Setting) (n : Naming c.own) where
   letter-keeps : (s : System) (a : ℕ) (u : Under) (l : Letter) (b : Box) → BoxSteady s.home.side.now (length s.used) a b
       → Keeps s a (letter.taken b u l) (letter.taken_after b u l tt)
   letter-keeps s a u l b o =
-      unless-both (Keeps s a) (first_fault (letter.letter_conditions b u l)) (letter.taken_by b l (letter.pending_for b u l)) told.Wrong (letter.taken_from b u l tt (letter.pending_for b u l)) (λ _. b) (go u (letter.pending_for b u l)) (λ _ _. o)
+      unless-both (Keeps s a) (first_fault (letter.letter_conditions b u l)) (letter.taken_by b l (letter.pending_for b u l)) Err (letter.taken_from b u l tt (letter.pending_for b u l)) (λ _. b) (go u (letter.pending_for b u l)) (λ _ _. o)
     where
       k : ℕ
       k = suc (length s.used)
@@ -265,9 +266,9 @@ module _ (c : Setting) (n : Naming c.own) where
 
   changed-keeps : (xs : List Account) (m : ℕ) (x : Account) (r : Changed) → AllSteady xs
       → (nobody m ≡ false → is_absent x ≡ false → (m < length c.own) × (key_in x ≡ own_of c.own m)) → AllSteady (changed xs m x r)
-  changed-keeps xs m x Same o h j e = o j e
-  changed-keeps xs m x (Refused f) o h j e = o j e
-  changed-keeps xs m x Done o h j e = go (account-set xs m x j)
+  changed-keeps xs m x (Ok Same) o h j e = o j e
+  changed-keeps xs m x (Err f) o h j e = o j e
+  changed-keeps xs m x (Ok Done) o h j e = go (account-set xs m x j)
     where
       go : (account_of (set xs m x) j ≡ account_of xs j) ⊎ ((j ≡ m) × (account_of (set xs m x) j ≡ x)) → AccountsSteady (set xs m x) j
       go (inl f) =

@@ -1,5 +1,5 @@
 -- A letter at a box: its login or asking has its letter, and whom the ticket is for is asked. Assumes nothing.
-use Rattle.std.proofs.Common.{◌≡◌, ℕ, suc, ◌+◌, ◌*◌, Bool, true, false, cond, ◌&&◌, eqb, ◌⊎◌, List, [], ◌∷◌, ◌++◌, length, get_or, Some, None, Option, sym, refl, ap, ◌∙◌, subst, inl, inr, arith, eq-eqb, eqb-true}
+use Rattle.std.proofs.Common.{◌≡◌, ℕ, suc, ◌+◌, ◌*◌, Bool, true, false, cond, ◌&&◌, eqb, ◌⊎◌, List, [], ◌∷◌, ◌++◌, length, get_or, Some, None, Option, sym, refl, ap, ◌∙◌, subst, inl, inr, arith, eq-eqb, eqb-true, Err, Ok}
 use mathlib.Core.List.Memᴰ
 use mathlib.Core.List.{Memᴰ}
 use Rattle.std.specs.Str.{bytes_eq}
@@ -12,8 +12,8 @@ use Rattle.box_rules.specs.Chest.{two_bytes}
 use Rattle.box_rules.specs.Chest as chest
 use Rattle.box_rules.specs.Letter as letter
 use Rattle.box_rules.specs.Table.{oldest, without}
-use Rattle.box_rules.specs.declared.answer.Answer.{Answer}
-use Rattle.box_rules.specs.declared.answer.Answer.TheVariants.{Takes, Wrong}
+use Rattle.box_rules.specs.Line.{Told}
+use Rattle.box_rules.specs.declared.answer.Answer.TheVariants.{Takes}
 use Rattle.box_rules.specs.declared.line.Held.{Held}
 use Rattle.box_rules.specs.declared.line.Pending.{Pending}
 use Rattle.box_rules.specs.declared.line.Sought.TheVariants.{Login, AtHouse}
@@ -125,8 +125,8 @@ module _ (c : Setting) (n : Naming c.own) {K : List Closing} {p : ℕ} {s : Syst
         )
 
   -- what a box answers when it takes a letter for what is under way
-  abbrev took : Pending → Answer
-  took q = Takes (record { id = (s.box a).taken + 1; service = l.service; until = l.until }) (chest.asking_of (s.box a) l.key l.service q.line)
+  abbrev took : Pending → Told
+  took q = Ok (Takes (record { id = (s.box a).taken + 1; service = l.service; until = l.until }) (chest.asking_of (s.box a) l.key l.service q.line))
 
   abbrev After : Under → Pending → Type 0
   After u q =
@@ -400,7 +400,7 @@ module _ (c : Setting) (n : Naming c.own) {K : List Closing} {p : ℕ} {s : Syst
           (fresh-fact x pend.known number t ev reach refl x.line.service service-is q₀ (Memᴰ.head refl) refl pend.line.reader refl refl refl refl pend.line.reader))
       takens y (inr i) = taken-stays c n gs gs bs _ y (λ z i. i) (λ z i. behind (eqb l.service 0) _ bs z i) (o.takens y i)
 
-  abbrev Answered : Under → Answer → Box → Type 0
+  abbrev Answered : Under → Told → Box → Type 0
   Answered u r b = Tied c n K (suc p) (with_sent (told_sent n.name r) (told_drawn r) (with_box a b s)) ls gs (begun_told r p a (s.box a).now ++ bs) ds (taken_told r p a l s.stolen ++ xs)
 
   -- a letter belongs to what is under way
@@ -429,8 +429,8 @@ module _ (c : Setting) (n : Naming c.own) {K : List Closing} {p : ℕ} {s : Syst
       refused = unseen c n o _ (matches-box c n s o.model a (s.box a) o.matches ok)
 
       go : (f : Option Fault) (k : Option Pending) → first_fault (letter.letter_conditions (s.box a) u l) ≡ f → letter.pending_for (s.box a) u l ≡ k
-          → New c n s (told_drawn (unless f (letter.taken_by (s.box a) l k) Wrong))
-          → Answered u (unless f (letter.taken_by (s.box a) l k) Wrong) (unless f (letter.taken_from (s.box a) u l tt k) (λ _. s.box a))
+          → New c n s (told_drawn (unless f (letter.taken_by (s.box a) l k) Err))
+          → Answered u (unless f (letter.taken_by (s.box a) l k) Err) (unless f (letter.taken_from (s.box a) u l tt k) (λ _. s.box a))
       go (Some f) k e g new = refused
       go None None e g new = refused
       go None (Some q) e g new = found u q g h new

@@ -1,5 +1,5 @@
 -- A reader's line at a box: a login, an asking for the house, or an asking to a service. Assumes nothing.
-use Rattle.std.proofs.Common.{◌≡◌, ℕ, suc, ◌+◌, ◌*◌, Bool, true, false, cond, not, ◌||◌, eqb, ◌⊎◌, List, [], ◌∷◌, ◌++◌, length, get_or, Some, None, Option, sym, refl, ap, ◌∙◌, subst, inl, inr, arith, eq-eqb, eqb-true}
+use Rattle.std.proofs.Common.{◌≡◌, ℕ, suc, ◌+◌, ◌*◌, Bool, true, false, cond, not, ◌||◌, eqb, ◌⊎◌, List, [], ◌∷◌, ◌++◌, length, get_or, Some, None, Option, sym, refl, ap, ◌∙◌, subst, inl, inr, arith, eq-eqb, eqb-true, Err, Ok}
 use mathlib.Core.List.Memᴰ
 use mathlib.Core.List.{Memᴰ}
 use Rattle.parts.specs.Condition.{first_fault, unless}
@@ -12,7 +12,7 @@ use Rattle.parts.specs.declared.word.What.{What}
 use Rattle.box_rules.specs.Chest.{two_bytes, what_of, tick_of}
 use Rattle.box_rules.specs.Chest as chest
 use Rattle.box_rules.specs.Line as line
-use Rattle.box_rules.specs.declared.answer.Answer.TheVariants.{Asks, LogsIn, Wrong}
+use Rattle.box_rules.specs.declared.answer.Answer.TheVariants.{Asks, LogsIn}
 use Rattle.box_rules.specs.declared.line.Held.{Held}
 use Rattle.box_rules.specs.declared.line.Pass.{Pass}
 use Rattle.box_rules.specs.declared.line.Pending.{Pending}
@@ -81,8 +81,8 @@ module _ (c : Setting) (n : Naming c.own) {K : List Closing} {p : ℕ} {s : Syst
     -- by no ticket: a login
     login : (v ≡ 0 → ⊥) → n.name (number_of (s.box a).left).0 ≡ even (suc (length s.used))
         → Tied c n K (suc p)
-        (with_sent (told_sent n.name (LogsIn (line.login_of (s.box a)))) (told_drawn (LogsIn (line.login_of (s.box a)))) (with_box a (line.logged_in (line.counted (s.box a)) (line.line_of (s.box a) v w)) s))
-        (told ∷ ls) gs (begun_told (LogsIn (line.login_of (s.box a))) p a (s.box a).now ++ bs) ds xs
+        (with_sent (told_sent n.name (Ok (LogsIn (line.login_of (s.box a))))) (told_drawn (Ok (LogsIn (line.login_of (s.box a))))) (with_box a (line.logged_in (line.counted (s.box a)) (line.line_of (s.box a) v w)) s))
+        (told ∷ ls) gs (begun_told (Ok (LogsIn (line.login_of (s.box a)))) p a (s.box a).now ++ bs) ds xs
     login service new =
         record {
           events = ev ∷ o.events;
@@ -168,9 +168,9 @@ module _ (c : Setting) (n : Naming c.own) {K : List Closing} {p : ℕ} {s : Syst
     by-house : (v ≡ 0 → ⊥) → (q : Pass) → q.service ≡ 0 → (h : Held (Unit {0})) → Memᴰ h (s.box a).tickets → h.pass ≡ q
         → n.name (number_of (s.box a).left).0 ≡ even (suc (length s.used))
         → Tied c n K (suc p)
-        (with_sent (told_sent n.name (Asks q.id (chest.asking_of (s.box a) q.key q.service (line.line_of (s.box a) v w)))) (told_drawn (Asks q.id (chest.asking_of (s.box a) q.key q.service (line.line_of (s.box a) v w))))
+        (with_sent (told_sent n.name (Ok (Asks q.id (chest.asking_of (s.box a) q.key q.service (line.line_of (s.box a) v w))))) (told_drawn (Ok (Asks q.id (chest.asking_of (s.box a) q.key q.service (line.line_of (s.box a) v w)))))
         (with_box a (chest.asked (line.counted (s.box a)) q.key q.service (line.line_of (s.box a) v w)) s))
-        (told ∷ ls) gs (begun_told (Asks q.id (chest.asking_of (s.box a) q.key q.service (line.line_of (s.box a) v w))) p a (s.box a).now ++ bs) ds xs
+        (told ∷ ls) gs (begun_told (Ok (Asks q.id (chest.asking_of (s.box a) q.key q.service (line.line_of (s.box a) v w)))) p a (s.box a).now ++ bs) ds xs
     by-house service q house h held pass new =
         record {
           events = ev ∷ o.events;
@@ -278,9 +278,9 @@ module _ (c : Setting) (n : Naming c.own) {K : List Closing} {p : ℕ} {s : Syst
     by_service : (v ≡ 0 → ⊥) → (q : Pass) → q.service ≡ v → (h : Held (Unit {0})) → Memᴰ h (s.box a).tickets → h.pass ≡ q
         → n.name (number_of (s.box a).left).0 ≡ even (suc (length s.used))
         → Tied c n K (suc p)
-        (with_sent (told_sent n.name (Asks q.id (chest.asking_of (s.box a) q.key q.service (line.line_of (s.box a) v w)))) (told_drawn (Asks q.id (chest.asking_of (s.box a) q.key q.service (line.line_of (s.box a) v w))))
+        (with_sent (told_sent n.name (Ok (Asks q.id (chest.asking_of (s.box a) q.key q.service (line.line_of (s.box a) v w))))) (told_drawn (Ok (Asks q.id (chest.asking_of (s.box a) q.key q.service (line.line_of (s.box a) v w)))))
         (with_box a (chest.asked (line.counted (s.box a)) q.key q.service (line.line_of (s.box a) v w)) s))
-        (told ∷ ls) gs (begun_told (Asks q.id (chest.asking_of (s.box a) q.key q.service (line.line_of (s.box a) v w))) p a (s.box a).now ++ bs) ds xs
+        (told ∷ ls) gs (begun_told (Ok (Asks q.id (chest.asking_of (s.box a) q.key q.service (line.line_of (s.box a) v w)))) p a (s.box a).now ++ bs) ds xs
     by_service service q mine-is h held pass new =
         record {
           events = ev ∷ o.events;
@@ -386,13 +386,13 @@ module _ (c : Setting) (n : Naming c.own) {K : List Closing} {p : ℕ} {s : Syst
         right f e = let p2 = passed _ _ e in let p7 = passed _ _ p2.1 in (passed _ _ p7.1).0
 
         go : (b : Bool) (f : Option Fault) (k : Option Pass) → first_fault (line.line_conditions (s.box a) v by) ≡ f → line.pass_by by (s.box a).tickets ≡ k
-            → New c n s (told_drawn (cond b (Wrong OutOfRange) (unless f (line.sent_by (s.box a) k (line.line_of (s.box a) v w)) Wrong)))
+            → New c n s (told_drawn (cond b (Err OutOfRange) (unless f (line.sent_by (s.box a) k (line.line_of (s.box a) v w)) Err)))
             → Tied c n K (suc p)
-            (with_sent (told_sent n.name (cond b (Wrong OutOfRange) (unless f (line.sent_by (s.box a) k (line.line_of (s.box a) v w)) Wrong)))
-            (told_drawn (cond b (Wrong OutOfRange) (unless f (line.sent_by (s.box a) k (line.line_of (s.box a) v w)) Wrong)))
+            (with_sent (told_sent n.name (cond b (Err OutOfRange) (unless f (line.sent_by (s.box a) k (line.line_of (s.box a) v w)) Err)))
+            (told_drawn (cond b (Err OutOfRange) (unless f (line.sent_by (s.box a) k (line.line_of (s.box a) v w)) Err)))
             (with_box a (cond b (s.box a) (unless f (line.sent_after (s.box a) k (line.line_of (s.box a) v w)) (λ _. s.box a))) s))
-            (line_told (cond b (Wrong OutOfRange) (unless f (line.sent_by (s.box a) k (line.line_of (s.box a) v w)) Wrong)) told ++ ls) gs
-            (begun_told (cond b (Wrong OutOfRange) (unless f (line.sent_by (s.box a) k (line.line_of (s.box a) v w)) Wrong)) p a (s.box a).now ++ bs) ds xs
+            (line_told (cond b (Err OutOfRange) (unless f (line.sent_by (s.box a) k (line.line_of (s.box a) v w)) Err)) told ++ ls) gs
+            (begun_told (cond b (Err OutOfRange) (unless f (line.sent_by (s.box a) k (line.line_of (s.box a) v w)) Err)) p a (s.box a).now ++ bs) ds xs
         go true f k e g new = refused
         go false (Some f) k e g new = refused
         go false None None e g new = login (λ z. clash (eq-eqb v 0 z) (or-false-left (eqb v 0) _ (right None e))) new
@@ -408,9 +408,9 @@ module _ (c : Setting) (n : Naming c.own) {K : List Closing} {p : ℕ} {s : Syst
             Goal : Type 0
             Goal =
                 Tied c n K (suc p)
-                (with_sent (told_sent n.name (Asks q.id (chest.asking_of (s.box a) q.key q.service (line.line_of (s.box a) v w)))) (told_drawn (Asks q.id (chest.asking_of (s.box a) q.key q.service (line.line_of (s.box a) v w))))
+                (with_sent (told_sent n.name (Ok (Asks q.id (chest.asking_of (s.box a) q.key q.service (line.line_of (s.box a) v w))))) (told_drawn (Ok (Asks q.id (chest.asking_of (s.box a) q.key q.service (line.line_of (s.box a) v w)))))
                 (with_box a (chest.asked (line.counted (s.box a)) q.key q.service (line.line_of (s.box a) v w)) s))
-                (told ∷ ls) gs (begun_told (Asks q.id (chest.asking_of (s.box a) q.key q.service (line.line_of (s.box a) v w))) p a (s.box a).now ++ bs) ds xs
+                (told ∷ ls) gs (begun_told (Ok (Asks q.id (chest.asking_of (s.box a) q.key q.service (line.line_of (s.box a) v w)))) p a (s.box a).now ++ bs) ds xs
 
             fits : (eqb q.service 0 || eqb q.service v) ≡ true → (eqb q.service 0 ≡ true) ⊎ (eqb q.service v ≡ true)
             fits y = or_cases (eqb q.service 0) (eqb q.service v) y

@@ -11,7 +11,7 @@
 --
 -- A word here is one that was opened. That a word locked with another key does not open, fault 3, and that what can't be read
 -- is fault 1, is the affair of locks and of bytes, which stand elsewhere. Which words outsiders can have is in the table of the model.
-use Rattle.std.specs.Prelude.{◌≡◌, ℕ, ◌+◌, ◌*◌, ◌^◌, true, false, List, [], ◌∷◌, ◌++◌, map, replicate, Some, None, Option, slice_index}
+use Rattle.std.specs.Prelude.{◌≡◌, ℕ, ◌+◌, ◌*◌, ◌^◌, true, false, List, [], ◌∷◌, ◌++◌, map, replicate, Some, None, Option, slice_index, Ok, Err}
 use Rattle.parts.specs.Fault.{fault_number}
 use Rattle.parts.specs.Tick.{clock, tick_fault}
 use Rattle.parts.specs.declared.account.Account.TheVariants.{Absent, Open}
@@ -25,20 +25,18 @@ use Rattle.parts.specs.declared.word.Ticket.{Ticket}
 use Rattle.parts.specs.declared.word.What.{What}
 use Rattle.service_rules.specs.Service.{View, view}
 use Rattle.service_rules.specs.Service as service
-use Rattle.service_rules.specs.declared.answer.Answer.{Answer}
-use Rattle.service_rules.specs.declared.answer.Answer.TheVariants as answer
-use Rattle.held.specs.declared.memory.Cut.TheVariants.{Junk, New, Old}
+use Rattle.service_rules.specs.Service.{Answer}
+use Rattle.held.specs.declared.cut.Cut.TheVariants.{Junk, New, Old}
 use Rattle.house_rules.specs.Change.{opened, shut}
 use Rattle.house_rules.specs.House.{Home}
 use Rattle.house_rules.specs.House as house
-use Rattle.house_rules.specs.declared.change.Changed.{Changed}
+use Rattle.house_rules.specs.Change.{Answer as Changed}
 use Rattle.house_rules.specs.declared.change.Changed.TheVariants as changed
-use Rattle.house_rules.specs.declared.reply.Reply.{Reply}
-use Rattle.house_rules.specs.declared.reply.Reply.TheVariants as reply
+use Rattle.house_rules.specs.Give.{Reply}
 use Rattle.box_rules.specs.Chest.{two_bytes}
 use Rattle.box_rules.specs.Line as line
 use Rattle.box_rules.specs.Letter as letter
-use Rattle.box_rules.specs.declared.answer.Answer as Told
+use Rattle.box_rules.specs.Line.{Told}
 use Rattle.box_rules.specs.declared.answer.Answer.TheVariants as told
 use Rattle.box_rules.specs.declared.line.Under.TheVariants.{Own as OwnKey, Session}
 use Rattle.rows.specs.Name.{Bytes, Naming, own_of}
@@ -69,28 +67,28 @@ pub data Outcome : Type 0 where
 
 -- an answer of the house, by the ticket that goes out
 abbrev pub of_reply : Reply → Outcome
-of_reply (reply.Granted g t l) = Gives t.inside.service t.inside.reader t.inside.until
-of_reply (reply.Refused f) = Fails (fault_number f)
+of_reply (Ok x) = Gives x.ticket.inside.service x.ticket.inside.reader x.ticket.inside.until
+of_reply (Err f) = Fails (fault_number f)
 
 -- an answer of a service
 abbrev pub of_answer : Answer → Outcome
-of_answer (answer.Done d l) = Does d.reader (words_of d.what) d.asked
-of_answer (answer.Refused f) = Fails (fault_number f)
+of_answer (Ok x) = Does x.deed.reader (words_of x.deed.what) x.deed.asked
+of_answer (Err f) = Fails (fault_number f)
 
 -- an answer of a box, by what it sends
-abbrev pub of_told : Told.Answer → Outcome
-of_told (told.LogsIn l) = LogsIn l.inside.tick
-of_told (told.Asks i l) = Asks l.inside.service l.inside.tick
-of_told (told.Takes g l) = Takes g.id g.service g.until
-of_told (told.Receipt i) = Confirms i
-of_told (told.Shown k) = Happens
-of_told (told.Wrong f) = Fails (fault_number f)
+abbrev pub of_told : Told → Outcome
+of_told (Ok (told.LogsIn l)) = LogsIn l.inside.tick
+of_told (Ok (told.Asks i l)) = Asks l.inside.service l.inside.tick
+of_told (Ok (told.Takes g l)) = Takes g.id g.service g.until
+of_told (Ok (told.Receipt i)) = Confirms i
+of_told (Ok (told.Shown k)) = Happens
+of_told (Err f) = Fails (fault_number f)
 
 -- an answer to an opening or a closing
 abbrev pub of_changed : Changed → Outcome
-of_changed changed.Done = Changes
-of_changed changed.Same = Stays
-of_changed (changed.Refused f) = Fails (fault_number f)
+of_changed (Ok changed.Done) = Changes
+of_changed (Ok changed.Same) = Stays
+of_changed (Err f) = Fails (fault_number f)
 
 -- a fault, if there is one
 abbrev pub of_fault : Option Fault → Outcome

@@ -1,6 +1,6 @@
 -- One row that can happen, so that what the promises rest on can be met: a crash of a service and its wait, an asking refused meanwhile,
 -- the reader served at the next tick, the same asking refused, a closing, a theft. Assumes nothing.
-use Rattle.std.specs.Prelude.{◌≡◌, ℕ, ◌+◌, ◌*◌, true, List, [], ◌∷◌, ◌++◌, replicate, None, slice_index}
+use Rattle.std.specs.Prelude.{◌≡◌, ℕ, ◌+◌, ◌*◌, true, List, [], ◌∷◌, ◌++◌, replicate, None, slice_index, Err}
 use Rattle.parts.specs.declared.fault.Fault.TheVariants.{DoneBefore, NotNow}
 use Rattle.parts.specs.declared.word.Asking.{Asking}
 use Rattle.parts.specs.declared.word.Key.{Key}
@@ -10,9 +10,8 @@ use Rattle.parts.specs.declared.word.Number.{Number}
 use Rattle.parts.specs.declared.word.Ticket.{Ticket}
 use Rattle.parts.specs.declared.word.What.{What}
 use Rattle.service_rules.specs.Service.{answered}
-use Rattle.service_rules.specs.declared.answer.Answer.{Answer}
-use Rattle.service_rules.specs.declared.answer.Answer.TheVariants.{Refused}
-use Rattle.held.specs.declared.memory.Cut.TheVariants.{Junk}
+use Rattle.service_rules.specs.Service.{Answer}
+use Rattle.held.specs.declared.cut.Cut.TheVariants.{Junk}
 use Rattle.house_rules.specs.Account.{closed}
 use Rattle.box_rules.specs.Chest.{two_bytes}
 use Rattle.box_rules.specs.declared.line.Under.TheVariants.{Own as OwnKey, Session}
@@ -134,8 +133,8 @@ pub record CanHappen : Type 0 where
   pub possible : Possible setting naming 10 happens
   pub deed : deeds setting naming 10 happens ≡ done ∷ []
   pub line : lines setting naming 10 happens ≡ wanted ∷ []
-  pub waits : answer_after naming begun ≡ Refused NotNow
-  pub again : answer_after naming served ≡ Refused DoneBefore
+  pub waits : answer_after naming begun ≡ Err NotNow
+  pub again : answer_after naming served ≡ Err DoneBefore
   pub is-closed : closed (run setting naming 10 happens).home.accounts 1 ≡ true
   pub stolen : (run setting naming 10 happens).stolen ≡ 3 ∷ []
   pub before_possible : Possible setting naming 10 before

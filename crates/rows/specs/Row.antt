@@ -1,18 +1,16 @@
 -- What a row of acts tells: lines, deeds, keys given, logins and askings begun, letters taken; and what is promised of them.
 -- Newest first: in e ∷ es, es came before e; a place is how many acts came before. The proofs are in proofs/Promises.antt. Assumes nothing.
-use Rattle.std.specs.Prelude.{◌≡◌, ℕ, ◌+◌, ◌<◌, ◌≤◌, Bool, true, false, cond, List, [], ◌∷◌, ◌++◌, length}
+use Rattle.std.specs.Prelude.{◌≡◌, ℕ, ◌+◌, ◌<◌, ◌≤◌, Bool, true, false, cond, List, [], ◌∷◌, ◌++◌, length, Err, Ok}
 use mathlib.Core.List.{Memᴰ}
 use Rattle.parts.specs.declared.word.Letter.{Letter}
 use Rattle.service_rules.specs.Service as service
-use Rattle.service_rules.specs.declared.answer.Answer.{Answer}
-use Rattle.service_rules.specs.declared.answer.Answer.TheVariants.{Done as Did, Refused}
+use Rattle.service_rules.specs.Service.{Answer}
 use Rattle.house_rules.specs.Account.{closed}
 use Rattle.house_rules.specs.House as house
-use Rattle.house_rules.specs.declared.reply.Reply.{Reply}
-use Rattle.house_rules.specs.declared.reply.Reply.TheVariants.{Granted, Refused as NotGranted}
+use Rattle.house_rules.specs.Give.{Reply}
 use Rattle.box_rules.specs.Line as line
 use Rattle.box_rules.specs.Letter as letter
-use Rattle.box_rules.specs.declared.answer.Answer as Told
+use Rattle.box_rules.specs.Line.{Told}
 use Rattle.box_rules.specs.declared.answer.Answer.TheVariants as told
 use Rattle.tickets.specs.Term.{Term, Gets}
 use Rattle.tickets.specs.State.{Done, State, Safe, is_in}
@@ -71,43 +69,43 @@ pub record Taken : Type 0 where
   pub stolen : List ℕ
 
 -- the line of an answer that is no refusal
-abbrev pub line_told : Told.Answer → Wanted → List Wanted
-line_told (told.LogsIn l) w = w ∷ []
-line_told (told.Asks i l) w = w ∷ []
-line_told (told.Takes g l) w = []
-line_told (told.Receipt i) w = []
-line_told (told.Shown k) w = []
-line_told (told.Wrong f) w = []
+abbrev pub line_told : Told → Wanted → List Wanted
+line_told (Ok (told.LogsIn l)) w = w ∷ []
+line_told (Ok (told.Asks i l)) w = w ∷ []
+line_told (Ok (told.Takes g l)) w = []
+line_told (Ok (told.Receipt i)) w = []
+line_told (Ok (told.Shown k)) w = []
+line_told (Err f) w = []
 
 -- what is begun with an answer: a login, or an asking that is for the house
-abbrev pub begun_told : Told.Answer → (place reader at : ℕ) → List Begun
-begun_told (told.LogsIn l) p a t = record { place = p; reader = a; number = l.inside.number.0; at = t; login = true } ∷ []
-begun_told (told.Asks i l) p a t = cond (house.for_house l.inside) (record { place = p; reader = a; number = l.inside.number.0; at = t; login = false } ∷ []) []
-begun_told (told.Takes g l) p a t = cond (house.for_house l.inside) (record { place = p; reader = a; number = l.inside.number.0; at = t; login = false } ∷ []) []
-begun_told (told.Receipt i) p a t = []
-begun_told (told.Shown k) p a t = []
-begun_told (told.Wrong f) p a t = []
+abbrev pub begun_told : Told → (place reader at : ℕ) → List Begun
+begun_told (Ok (told.LogsIn l)) p a t = record { place = p; reader = a; number = l.inside.number.0; at = t; login = true } ∷ []
+begun_told (Ok (told.Asks i l)) p a t = cond (house.for_house l.inside) (record { place = p; reader = a; number = l.inside.number.0; at = t; login = false } ∷ []) []
+begun_told (Ok (told.Takes g l)) p a t = cond (house.for_house l.inside) (record { place = p; reader = a; number = l.inside.number.0; at = t; login = false } ∷ []) []
+begun_told (Ok (told.Receipt i)) p a t = []
+begun_told (Ok (told.Shown k)) p a t = []
+begun_told (Err f) p a t = []
 
 -- the letter that an answer takes
-abbrev pub taken_told : Told.Answer → (place reader : ℕ) → Letter → List ℕ → List Taken
-taken_told (told.LogsIn x) p a l st = []
-taken_told (told.Asks i x) p a l st = []
-taken_told (told.Takes g x) p a l st = record { place = p; reader = a; service = l.service; key = l.key.0; number = l.number.0; stolen = st } ∷ []
-taken_told (told.Receipt i) p a l st = []
-taken_told (told.Shown k) p a l st = []
-taken_told (told.Wrong f) p a l st = []
+abbrev pub taken_told : Told → (place reader : ℕ) → Letter → List ℕ → List Taken
+taken_told (Ok (told.LogsIn x)) p a l st = []
+taken_told (Ok (told.Asks i x)) p a l st = []
+taken_told (Ok (told.Takes g x)) p a l st = record { place = p; reader = a; service = l.service; key = l.key.0; number = l.number.0; stolen = st } ∷ []
+taken_told (Ok (told.Receipt i)) p a l st = []
+taken_told (Ok (told.Shown k)) p a l st = []
+taken_told (Err f) p a l st = []
 
 -- the deed of an answer that is no refusal
 abbrev pub deed_told : Answer → (place service at : ℕ) → List ℕ → List Deed
-deed_told (Did d l) p v t st =
-    record { place = p; service = v; reader = d.reader; key = l.key.0; number = d.number.0; what = words_of d.what; at = t; stolen = st } ∷ []
-deed_told (Refused f) p v t st = []
+deed_told (Ok x) p v t st =
+    record { place = p; service = v; reader = x.deed.reader; key = x.receipt.key.0; number = x.deed.number.0; what = words_of x.deed.what; at = t; stolen = st } ∷ []
+deed_told (Err f) p v t st = []
 
 -- the key of a reply that is no refusal
 abbrev pub key_told : Reply → (place at : ℕ) → List ℕ → List Given
-key_told (Granted g t l) p now st =
-    record { place = p; reader = t.inside.reader; service = t.inside.service; key = t.inside.key.0; number = l.inside.number.0; at = now; until = t.inside.until; stolen = st } ∷ []
-key_told (NotGranted f) p now st = []
+key_told (Ok x) p now st =
+    record { place = p; reader = x.ticket.inside.reader; service = x.ticket.inside.service; key = x.ticket.inside.key.0; number = x.letter.inside.number.0; at = now; until = x.ticket.inside.until; stolen = st } ∷ []
+key_told (Err f) p now st = []
 
 module _ (c : Setting) (n : Naming c.own) where
   -- what one act tells, in the system that it comes to, at a place

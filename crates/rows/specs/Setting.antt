@@ -2,8 +2,8 @@
 use Rattle.std.specs.Prelude.{ℕ, ◌≤◌, List}
 use Rattle.parts.specs.declared.word.Key.{Key}
 use Rattle.parts.specs.declared.word.Number.{Number}
-use Rattle.held.specs.declared.memory.Cut.{Cut}
-use Rattle.held.specs.declared.memory.Cut.TheVariants.{Junk, New, Old}
+use Rattle.held.specs.declared.cut.Cut.{Cut}
+use Rattle.held.specs.declared.cut.Cut.TheVariants.{Junk, New, Old}
 use Rattle.tickets.specs.State.{Rules}
 use Rattle.rows.specs.Name.{Naming}
 
@@ -20,7 +20,7 @@ abbrev pub rules_of : (c : Setting) → Naming c.own → Rules
 rules_of c n = record { house = 0; life = c.life; lag = c.lag; key_of = n.key_of }
 
 -- a write can be cut only where one is made: not while the side waits
-abbrev pub Writing : Cut → (now wake : ℕ) → Type 0
+abbrev pub Writing : Cut ℕ → (now wake : ℕ) → Type 0
 Writing Old now wake = Unit {0}
 Writing (New d) now wake = wake ≤ now
 Writing Junk now wake = wake ≤ now

@@ -19,7 +19,7 @@ use Rattle.service_rules.specs.Service.{View, view}
 use Rattle.service_rules.specs.Service as service
 use Rattle.service_rules.specs.Side.{begun, on_tick}
 use Rattle.held.specs.Crash.{reread, rejunk}
-use Rattle.held.specs.declared.memory.Cut.{Cut}
+use Rattle.held.specs.declared.cut.Cut.{Cut}
 use Rattle.service_rules.specs.declared.side.Side.{Side}
 use Rattle.house_rules.specs.Account.{own_key}
 use Rattle.house_rules.specs.Change.{opened_after, shut_after}
@@ -80,7 +80,7 @@ pub data Act : Type 0 where
   -- a device writes from now on, or does not
   device : (who : Who) (writes : Bool) → Act
   -- somebody crashes and starts again, and its last write was cut so
-  crashes : (who : Who) (cut : Cut) → Act
+  crashes : (who : Who) (cut : Cut ℕ) → Act
 
 -- one of many is changed
 abbrev pub at : {A : Type 0} → ℕ → A → (ℕ → A) → ℕ → A
@@ -128,7 +128,7 @@ restarted x (Ok y) = y
 restarted x (Err f) = x
 
 -- what a crash leaves of a service, and of the house
-abbrev pub crashed_view : Cut → View → View
+abbrev pub crashed_view : Cut ℕ → View → View
 crashed_view cut w =
     view (restarted w.side (begun w.side.number w.side.lag w.side.now (reread w.side.now w.side.lag cut w.kept) (rejunk w.side.now w.side.lag cut w.kept w.junk)))
     (reread w.side.now w.side.lag cut w.kept) (rejunk w.side.now w.side.lag cut w.kept w.junk) w.writes w.left
@@ -136,7 +136,7 @@ crashed_view cut w =
 abbrev pub view_of : Home → View
 view_of h = view h.side h.kept h.junk h.writes h.left
 
-abbrev pub crashed_home : Cut → Home → Home
+abbrev pub crashed_home : Cut ℕ → Home → Home
 crashed_home cut h =
     home_memory (crashed_view cut (view_of h)).side (crashed_view cut (view_of h)).kept (crashed_view cut (view_of h)).junk h.writes h
 

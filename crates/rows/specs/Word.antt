@@ -2,7 +2,7 @@
 --
 -- ticket_term, letter_term, asking_term, login_term, receipt_term    a lock with this key and inside
 -- what_term q                                                    what an asking asks: a service's number, of the house; words, of a service
-use Rattle.std.specs.Prelude.{cond, List, [], ◌∷◌, take}
+use Rattle.std.specs.Prelude.{cond, List, [], ◌∷◌, take, Err, Ok}
 use Rattle.parts.specs.declared.word.Key.{Key}
 use Rattle.parts.specs.declared.word.Ticket.{Ticket}
 use Rattle.parts.specs.declared.word.Letter.{Letter}
@@ -11,11 +11,9 @@ use Rattle.parts.specs.declared.word.Login.{Login}
 use Rattle.parts.specs.declared.word.Receipt.{Receipt}
 use Rattle.parts.specs.declared.word.What.{What}
 use Rattle.house_rules.specs.House.{for_house, wanted}
-use Rattle.house_rules.specs.declared.reply.Reply.{Reply}
-use Rattle.house_rules.specs.declared.reply.Reply.TheVariants.{Granted, Refused as NotGranted}
-use Rattle.service_rules.specs.declared.answer.Answer.{Answer}
-use Rattle.service_rules.specs.declared.answer.Answer.TheVariants.{Done, Refused}
-use Rattle.box_rules.specs.declared.answer.Answer as Told
+use Rattle.house_rules.specs.Give.{Reply}
+use Rattle.service_rules.specs.Service.{Answer}
+use Rattle.box_rules.specs.Line.{Told}
 use Rattle.box_rules.specs.declared.answer.Answer.TheVariants as told
 use Rattle.tickets.specs.Term.{Term, Num, Pair}
 use Rattle.tickets.specs.Event.{Body, body_term, letter, asking}
@@ -50,33 +48,33 @@ module _ (name : Bytes → Term) where
 
   -- what the house sends with an answer
   abbrev pub reply_sent : Reply → List Term
-  reply_sent (Granted g t l) = ticket_term t.key t.inside ∷ letter_term l.key l.inside ∷ []
-  reply_sent (NotGranted f) = []
+  reply_sent (Ok x) = ticket_term x.ticket.key x.ticket.inside ∷ letter_term x.letter.key x.letter.inside ∷ []
+  reply_sent (Err f) = []
 
   -- what a service sends with an answer
   abbrev pub answer_sent : Answer → List Term
-  answer_sent (Done d l) = receipt_term l.key l.inside ∷ []
-  answer_sent (Refused f) = []
+  answer_sent (Ok x) = receipt_term x.receipt.key x.receipt.inside ∷ []
+  answer_sent (Err f) = []
 
   -- what a box sends with an answer
-  abbrev pub told_sent : Told.Answer → List Term
-  told_sent (told.LogsIn l) = login_term l.key l.inside ∷ []
-  told_sent (told.Asks i l) = asking_term l.key l.inside ∷ []
-  told_sent (told.Takes g l) = asking_term l.key l.inside ∷ []
-  told_sent (told.Receipt i) = []
-  told_sent (told.Shown k) = []
-  told_sent (told.Wrong f) = []
+  abbrev pub told_sent : Told → List Term
+  told_sent (Ok (told.LogsIn l)) = login_term l.key l.inside ∷ []
+  told_sent (Ok (told.Asks i l)) = asking_term l.key l.inside ∷ []
+  told_sent (Ok (told.Takes g l)) = asking_term l.key l.inside ∷ []
+  told_sent (Ok (told.Receipt i)) = []
+  told_sent (Ok (told.Shown k)) = []
+  told_sent (Err f) = []
 
 -- the number that a box draws with an answer
-abbrev pub told_drawn : Told.Answer → List Bytes
-told_drawn (told.LogsIn l) = l.inside.number.0 ∷ []
-told_drawn (told.Asks i l) = l.inside.number.0 ∷ []
-told_drawn (told.Takes g l) = l.inside.number.0 ∷ []
-told_drawn (told.Receipt i) = []
-told_drawn (told.Shown k) = []
-told_drawn (told.Wrong f) = []
+abbrev pub told_drawn : Told → List Bytes
+told_drawn (Ok (told.LogsIn l)) = l.inside.number.0 ∷ []
+told_drawn (Ok (told.Asks i l)) = l.inside.number.0 ∷ []
+told_drawn (Ok (told.Takes g l)) = l.inside.number.0 ∷ []
+told_drawn (Ok (told.Receipt i)) = []
+told_drawn (Ok (told.Shown k)) = []
+told_drawn (Err f) = []
 
 -- the session key that the house draws with an answer
 abbrev pub reply_drawn : Reply → List Bytes
-reply_drawn (Granted g t l) = t.inside.key.0 ∷ []
-reply_drawn (NotGranted f) = []
+reply_drawn (Ok x) = x.ticket.inside.key.0 ∷ []
+reply_drawn (Err f) = []

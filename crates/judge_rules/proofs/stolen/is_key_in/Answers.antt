@@ -1,27 +1,8 @@
-use Rattle.judge_rules.proofs.Lines.{is_key_in-more}
 use Rattle.judge_rules.proofs.stolen.is_key_in.Goals as goal
 use Rattle.judge_rules.specs.Judge.{is_key_in}
-use Rattle.std.proofs.lemmas.List.{at_drop_all}
-use Rattle.std.proofs.Common.{rules}
-
-pub returns-then-same : goal.returns-then-same
-returns-then-same c =
-    let e = is_key_in-more c.args.key.now c.args.keys.now c.loop-one.one-index c.loop-one-test.true in
-    let i = c.loop-one.invariant in
-    let h = c.same.ensures in
-    let k = c.if-same.true in
-    search rules
-
-pub loop-one-preserved : goal.loop-one-preserved
-loop-one-preserved c =
-    let e = is_key_in-more c.args.key.now c.args.keys.now c.loop-one.one-index c.loop-one-test.true in
-    let i = c.loop-one.invariant in
-    let h = c.same.ensures in
-    let k = c.if-same.false in
-    search rules
+use Rattle.std.proofs.Common.{[], refl, rules}
+use Rattle.std.proofs.lemmas.List.Recursion.{or_is}
+use Rattle.std.specs.Str.{bytes_eq}
 
 pub returns : goal.returns
-returns c =
-    let e = at_drop_all (is_key_in c.args.key.now) c.args.keys.now c.loop-one.one-index in
-    let i = c.loop-one.invariant in
-    search rules
+returns c = or_is (is_key_in c.args.key.now) (λ x. bytes_eq x.0 c.args.key.now.0) refl (λ _ _. refl) c.args.keys.now (record { 0 = [] }) c.any.result (search rules) (search rules)

@@ -1,23 +1,11 @@
-use Rattle.judge_rules.proofs.Lines.{key_of-more}
+use Rattle.judge_rules.proofs.Lines.{key_by_find}
 use Rattle.judge_rules.proofs.stolen.key_of.Goals as goal
-use Rattle.judge_rules.specs.Judge.{key_of}
-use Rattle.std.proofs.lemmas.List.{at_drop_all}
-use Rattle.std.proofs.Common.{rules}
-
-pub returns-then-principal-number : goal.returns-then-principal-number
-returns-then-principal-number c =
-    let e = key_of-more c.args.number c.args.principals.now c.loop-principal.principal-index c.loop-principal-test.true in
-    let i = c.loop-principal.invariant in
-    search rules
-
-pub loop-principal-preserved : goal.loop-principal-preserved
-loop-principal-preserved c =
-    let e = key_of-more c.args.number c.args.principals.now c.loop-principal.principal-index c.loop-principal-test.true in
-    let i = c.loop-principal.invariant in
-    search rules
+use Rattle.judge_rules.specs.declared.record.Principal.{Principal}
+use Rattle.std.proofs.Common.{◌≡◌, eqb, ◌∙◌, rules}
+use Rattle.std.specs.List.{find}
+use Rattle.std.specs.Option.{option_map}
 
 pub returns : goal.returns
 returns c =
-    let e = at_drop_all (key_of c.args.number) c.args.principals.now c.loop-principal.principal-index in
-    let i = c.loop-principal.invariant in
-    search rules
+    let found : c.map.result ≡ option_map (λ (p : Principal). p.key) (find (λ (p : Principal). eqb p.number c.args.number) c.args.principals.now) = search rules in
+    found ∙ key_by_find c.args.number c.args.principals.now
