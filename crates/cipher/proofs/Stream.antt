@@ -1,10 +1,10 @@
 -- A list XORed in place with another, byte by byte and block by block.
-use Rattle.std.proofs.Common.{◌≡◌, ℕ, zero, suc, ◌+◌, ◌-◌, ◌*◌, ◌<◌, ◌≤◌, min, List, [], ◌∷◌, ◌++◌, length, get_or, take, drop, set, sym, refl, ap, ◌∙◌, ⊎_elim, append_assoc, append-nil, add-one, arith, length-append, length-drop, take-add}
+use Rattle.std.proofs.Common.{◌≡◌, ℕ, zero, suc, ◌+◌, ◌-◌, ◌*◌, ◌≤◌, min, List, [], ◌∷◌, ◌++◌, length, take, drop, sym, refl, ap, ◌∙◌, ⊎_elim, append_assoc, append-nil, add-one, arith, length-append, length-drop, take-add}
 use lib.Bits.{bit_xor, xor_assoc, xor_self, xor_zero_r}
 use lib.Lanes.{zip2}
 use borrow.Rule.Slice.PartMut.{put_mid}
 use Rattle.std.proofs.lemmas.Simd.{length-zip2}
-use Rattle.std.proofs.lemmas.List.{take_all, drop_all, drop-drop, drop_at, take_at, take_more, drop_more, set_at, get_or_at, length-take-le}
+use Rattle.std.proofs.lemmas.List.{take_all, drop_all, drop-drop, drop_at, take_at, length-take-le}
 use Rattle.std.proofs.lemmas.Bool.{cases_lt}
 use Rattle.cipher.specs.ChaCha20.{rounds, serialized, block, next, later, stream, blocks_of, turned}
 
@@ -15,46 +15,6 @@ module _ (f : ℕ → ℕ → ℕ) where
   zip2-append [] bs (k ∷ ks) ds e = absurd (omega arith)
   zip2-append (x ∷ xs) bs [] ds e = absurd (omega arith)
   zip2-append (x ∷ xs) bs (k ∷ ks) ds e = ap (λ l. f x k ∷ l) (zip2-append xs bs ks ds (omega arith))
-
-  -- what lies past the first list does not matter
-  pub zip2-take : (n : ℕ) (xs ks : List ℕ) → length xs ≤ n → zip2 f xs (take n ks) ≡ zip2 f xs ks
-  zip2-take n [] ks le = refl
-  zip2-take zero (x ∷ xs) ks le = absurd (omega arith)
-  zip2-take (suc n) (x ∷ xs) [] le = refl
-  zip2-take (suc n) (x ∷ xs) (k ∷ ks) le = ap (λ l. f x k ∷ l) (zip2-take n xs ks (omega arith))
-
-  length_front : (i : ℕ) (xs ks : List ℕ) → i ≤ length xs → i ≤ length ks → length (zip2 f (take i xs) (take i ks)) ≡ i
-  length_front i xs ks le le' =
-      length-zip2 f (take i xs) (take i ks) (length-take-le i xs le ∙ sym (length-take-le i ks le')) ∙ length-take-le i xs le
-
-  -- one byte more
-  pub zip2-more :
-      (i : ℕ) (xs ks ys : List ℕ) → i < length xs → i < length ks → ys ≡ zip2 f (take i xs) (take i ks) ++ drop i xs
-      → set ys i (f (get_or ys i 0) (get_or ks i 0)) ≡ zip2 f (take (i + 1) xs) (take (i + 1) ks) ++ drop (i + 1) xs
-  zip2-more i xs ks ys lt lt' e =
-      let x = get_or xs i 0 in
-      let k = get_or ks i 0 in
-      let front = zip2 f (take i xs) (take i ks) in
-      let n = length_front i xs ks (omega arith) (omega arith) in
-      let is : ys ≡ front ++ x ∷ drop (i + 1) xs = e ∙ ap (λ l. front ++ l) (drop_more xs i 0 lt) in
-      let read : get_or ys i 0 ≡ x = ap (λ l. get_or l i 0) is ∙ get_or_at front x (drop (i + 1) xs) 0 i n in
-      let grown : zip2 f (take (i + 1) xs) (take (i + 1) ks) ≡ front ++ f x k ∷ [] =
-      ap (λ l. zip2 f l (take (i + 1) ks)) (take_more xs i 0 lt)
-      ∙ ap (zip2 f (take i xs ++ x ∷ [])) (take_more ks i 0 lt')
-      ∙ zip2-append (take i xs) (x ∷ []) (take i ks) (k ∷ [])
-      (length-take-le i xs (omega arith) ∙ sym (length-take-le i ks (omega arith))) in
-      ap (λ l. set l i (f (get_or ys i 0) k)) is
-      ∙ set_at front x (drop (i + 1) xs) (f (get_or ys i 0) k) i n
-      ∙ ap (λ b. front ++ f b k ∷ drop (i + 1) xs) read
-      ∙ sym (append_assoc front (f x k ∷ []) (drop (i + 1) xs))
-      ∙ ap (λ l. l ++ drop (i + 1) xs) (sym grown)
-
-  pub zip2-all :
-      (i : ℕ) (xs ks ys : List ℕ) → i ≡ length xs → ys ≡ zip2 f (take i xs) (take i ks) ++ drop i xs → ys ≡ zip2 f xs ks
-  zip2-all i xs ks ys is e =
-      e ∙ ap (λ l. zip2 f l (take i ks) ++ drop i xs) (take_all i xs (omega arith))
-      ∙ ap (λ l. zip2 f xs (take i ks) ++ l) (drop_all i xs (omega arith))
-      ∙ append-nil (zip2 f xs (take i ks)) ∙ zip2-take i xs ks (omega arith)
 
 -- a part that ends at 64 or at the end
 whole-or-last :
@@ -85,10 +45,6 @@ length-stream zero s = refl
 length-stream (suc n) s =
     length-append (stream n s) (block (later n s))
     ∙ (let ih = length-stream n s in let b = length-block (later n s) in omega arith)
-
-pub stream-none : (s : List ℕ) → stream 0 s ≡ []
-unfolding stream
-stream-none s = refl
 
 pub stream-more : (n : ℕ) (s : List ℕ) → stream (n + 1) s ≡ stream n s ++ block (later n s)
 unfolding stream
@@ -153,7 +109,7 @@ zip2-back (x ∷ xs) [] le = absurd (omega arith)
 zip2-back (x ∷ xs) (k ∷ ks) le =
     ap (λ b. b ∷ zip2 bit_xor (zip2 bit_xor xs ks) ks) (xor-back x k) ∙ ap (λ l. x ∷ l) (zip2-back xs ks (omega arith))
 
-length-zip2-le : (xs ks : List ℕ) → length xs ≤ length ks → length (zip2 bit_xor xs ks) ≡ length xs
+pub length-zip2-le : (xs ks : List ℕ) → length xs ≤ length ks → length (zip2 bit_xor xs ks) ≡ length xs
 length-zip2-le [] ks le = refl
 length-zip2-le (x ∷ xs) [] le = absurd (omega arith)
 length-zip2-le (x ∷ xs) (k ∷ ks) le = ap suc (length-zip2-le xs ks (omega arith))

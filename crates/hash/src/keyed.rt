@@ -30,8 +30,8 @@ fn hasher_of(block: &[u8; 64], pad: u8) -> Hasher
     ensures { Holds result (masked pad block.now) }
 {
     let mut bytes = *block;
-    for i in 0..64usize {
-        bytes[i] ^= pad;
+    for byte in &mut bytes {
+        *byte ^= pad;
     }
     let mut hasher = Hasher::new();
     hasher.update(&bytes);

@@ -1,32 +1,8 @@
--- What a row of appends leaves, where the last of them may fail.
-use Rattle.std.proofs.Common.{◌≡◌, ℕ, ◌-◌, ◌≤◌, Bool, true, false, cond, ltb, List, ◌++◌, length, take, drop, replicate, is_ok, IfOk, Ok, Err, Result, refl, ap, ◌∙◌, append_assoc, append-nil, arith, length-append, length-drop}
-use borrow.Rule.Slice.PartMut.{put_mid}
-use Rattle.std.proofs.lemmas.List.{take_at, drop_at, drop_all, take_rest}
+-- What a lock made at the end of a word leaves.
+use Rattle.std.proofs.Common.{◌≡◌, ℕ, ◌-◌, ltb, List, ◌++◌, length, take, drop, replicate, refl, ap, ◌∙◌, arith, length-append}
+use Rattle.std.proofs.lemmas.List.{take_at, drop_at}
 use Rattle.std.proofs.lemmas.Bool.{cond-false, le-ltb}
 use Rattle.seal.specs.Lock.{lock, sealed, inside_of}
-
--- what was there stays in front
-pub more-after :
-    (b : Bool) (all more xs was : List ℕ) → was ≡ all ++ more → (rest : List ℕ) × (cond b (was ++ xs) was ≡ all ++ rest)
-more-after true all more xs was e = (more ++ xs, ap (λ l. l ++ xs) e ∙ append_assoc all more xs)
-more-after false all more xs was e = (more, e)
-
--- the last append gives what was wanted, where it succeeds
-pub made-last :
-    {X Y : Type 0} (r : Result X Y) (was xs last want : List ℕ) → last ≡ cond (is_ok r) (was ++ xs) was → was ++ xs ≡ want
-    → IfOk r (λ _. last ≡ want)
-made-last (Ok x) was xs last want e is = e ∙ is
-made-last (Err y) was xs last want e is = tt
-
--- a part sealed from `at` on, as its owner has it
-pub sealed-part :
-    (kind : ℕ) (key w part : List ℕ) (at : ℕ) → at ≤ length w → part ≡ sealed kind key (take (length w - at) (drop at w))
-    → put_mid at (length w - at) w part ≡ take at w ++ sealed kind key (drop at w)
-sealed-part kind key w part at le e =
-    ap (λ l. take at w ++ (l ++ drop (length w - at) (drop at w))) (e ∙ ap (sealed kind key) (take_rest w at))
-    ∙ ap (λ l. take at w ++ (sealed kind key (drop at w) ++ l))
-    (drop_all (length w - at) (drop at w) (let d = length-drop at w in omega arith))
-    ∙ ap (λ l. take at w ++ l) (append-nil (sealed kind key (drop at w)))
 
 -- drawn bytes, inside and room, sealed
 pub sealed-laid :

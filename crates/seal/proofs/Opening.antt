@@ -1,6 +1,6 @@
 -- What was locked opens again, and what opens was locked.
 use Rattle.std.proofs.Common.{◌≡◌, ℕ, ◌+◌, ◌-◌, ◌<◌, ◌≤◌, Bool, true, false, ltb, [], ◌∷◌, ◌++◌, length, take, drop, is_some, Some, None, sym, refl, ap, ◌∙◌, ⊎_elim, append_assoc, append-nil, arith, length-append, length-drop, take-add}
-use Rattle.std.proofs.lemmas.List.{take_at, drop_at, take-append-drop, length-take-le, take-take, drop-drop, drop_all, take_rest}
+use Rattle.std.proofs.lemmas.List.{take_at, drop_at, take-append-drop, length-take-le, take-take, drop-drop, drop_all}
 use Rattle.std.proofs.lemmas.Bool.{lt-ltb, le-ltb, cases_Bool, cases_lt, cond-true, cond-false}
 use borrow.Rule.Slice.PartMut.{put_mid}
 use Rattle.hash.specs.Hmac.{hmac}
@@ -233,9 +233,8 @@ module _ (kind : ℕ) (key w : Bytes) where
 
   -- the comparison of the sum in the word with the sum of the rest
   pub fits-compared :
-      (given s : Bytes) (r : Bool) → 32 ≤ length w → given ≡ take (length w - (length w - 16)) (drop (length w - 16) w)
-      → s ≡ sum kind key (body_of w) → r ≡ same given s → fits kind key w ≡ r
-  fits-compared given s r le g e is =
-      cond-false (ltb (length w) 32) false _ (le-ltb (length w) 32 le)
-      ∙ ap (λ l. same l (sum kind key (body_of w))) (sym (g ∙ take_rest w (length w - 16)))
-      ∙ ap (same given) (sym e) ∙ sym is
+      (body given s : Bytes) (r : Bool) → 32 ≤ length w → body ≡ body_of w → given ≡ sum_of w
+      → s ≡ sum kind key body → r ≡ same given s → r ≡ fits kind key w
+  fits-compared body given s r le b g e is =
+      is ∙ ap (same given) (e ∙ ap (sum kind key) b) ∙ ap (λ l. same l (sum kind key (body_of w))) g
+      ∙ sym (cond-false (ltb (length w) 32) false _ (le-ltb (length w) 32 le))

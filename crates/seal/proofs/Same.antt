@@ -1,9 +1,11 @@
 -- Two lists compared byte by byte, without a stop at the first that differs.
-use Rattle.std.proofs.Common.{◌≡◌, ℕ, ◌+◌, ◌<◌, Bool, true, false, eqb, List, [], ◌∷◌, ◌++◌, length, get_or, take, sym, refl, ap, ◌∙◌, arith}
+use Rattle.std.proofs.Common.{◌≡◌, ℕ, zero, suc, ◌+◌, ◌*◌, ◌≤◌, Bool, true, false, eqb, ◌&&◌, List, [], ◌∷◌, length, get_or, take, sym, refl, ap, ◌∙◌, arith}
 use lib.Bits.{bit_or, bit_xor, or_add_and, xor_add_and, and_le_l, and_le_r, xor_self}
-use Rattle.std.proofs.lemmas.List.{take_more, same_from_push}
+use Rattle.std.proofs.lemmas.List.{get_or-take}
 use Rattle.std.proofs.lemmas.Bool.{eqb-true, eq-eqb, and_parts, and_from}
-use Rattle.seal.specs.Lock.{same}
+use Rattle.std.proofs.Math.Bool.{and_assoc, and-true}
+use Rattle.std.specs.List.{fold, zip}
+use Rattle.seal.specs.Lock.{same, number}
 
 pub same_refl : (xs : List ℕ) → same xs xs ≡ true
 unfolding same
@@ -26,13 +28,9 @@ both true false f g = sym (f refl)
 both false true f g = g refl
 both false false f g = refl
 
--- one byte more: nothing differed so far, and nothing does here
-pub differ-more :
-    (d i : ℕ) (xs ys : List ℕ) → i < length xs → i < length ys → eqb d 0 ≡ same (take i xs) (take i ys)
-    → eqb (bit_or d (bit_xor (get_or xs i 0) (get_or ys i 0))) 0 ≡ same (take (i + 1) xs) (take (i + 1) ys)
-differ-more d i xs ys lt lt' inv =
-    let x = get_or xs i 0 in
-    let y = get_or ys i 0 in
+-- no bit differs in two bytes, nor did before
+none-differs : (d x y : ℕ) → eqb (bit_or d (bit_xor x y)) 0 ≡ (eqb d 0 && eqb x y)
+none-differs d x y =
     both _ _
     (λ t.
     let none = eqb-true (bit_or d (bit_xor x y)) 0 t in
@@ -42,18 +40,29 @@ differ-more d i xs ys lt lt' inv =
     let a = xor_add_and x y in
     let b = and_le_l x y in
     let c = and_le_r x y in
-    let d0 : d ≡ 0 = omega arith in
-    let x0 : bit_xor x y ≡ 0 = omega arith in
-    let eq : x ≡ y = omega arith in
-    let front : take i xs ≡ take i ys = same-eq (take i xs) (take i ys) (sym inv ∙ eq-eqb d 0 d0) in
-    let grown : take (i + 1) xs ≡ take (i + 1) ys =
-    take_more xs i 0 lt ∙ ap (λ l. l ++ x ∷ []) front ∙ ap (λ b. take i ys ++ b ∷ []) eq ∙ sym (take_more ys i 0 lt') in
-    ap (λ l. same l (take (i + 1) ys)) grown ∙ same_refl (take (i + 1) ys))
+    and_from (eqb d 0) (eqb x y) (eq-eqb d 0 (omega arith)) (eq-eqb x y (omega arith)))
     (λ t.
-    let grown = sym (take_more xs i 0 lt) ∙ same-eq (take (i + 1) xs) (take (i + 1) ys) t ∙ take_more ys i 0 lt' in
-    let parts = same_from_push (take i xs) (take i ys) x y grown in
-    let front : eqb d 0 ≡ true = inv ∙ ap (λ l. same l (take i ys)) parts.0 ∙ same_refl (take i ys) in
-    let d0 = eqb-true d 0 front in
-    let is : bit_or d (bit_xor x y) ≡ 0 =
-    ap (λ e. bit_or e (bit_xor x y)) d0 ∙ ap (λ e. bit_or 0 (bit_xor e y)) parts.1 ∙ ap (bit_or 0) (xor_self y) in
-    eq-eqb (bit_or d (bit_xor x y)) 0 is)
+    let p = and_parts (eqb d 0) (eqb x y) t in
+    eq-eqb (bit_or d (bit_xor x y)) 0
+    (ap (λ e. bit_or e (bit_xor x y)) (eqb-true d 0 p.0) ∙ ap (λ e. bit_or 0 (bit_xor e y)) (eqb-true x y p.1)
+    ∙ ap (bit_or 0) (xor_self y)))
+
+-- no bit differs in two lists, nor did before
+pub differ-all :
+    (d : ℕ) (xs ys : List ℕ) → length xs ≡ length ys
+    → eqb (fold (λ d (p : ℕ × ℕ). bit_or d (bit_xor p.0 p.1)) d (zip xs ys)) 0 ≡ (eqb d 0 && same xs ys)
+unfolding same
+differ-all d [] [] e = sym (and-true (eqb d 0))
+differ-all d [] (y ∷ ys) e = absurd (omega arith)
+differ-all d (x ∷ xs) [] e = absurd (omega arith)
+differ-all d (x ∷ xs) (y ∷ ys) e =
+    differ-all (bit_or d (bit_xor x y)) xs ys (omega arith)
+    ∙ ap (λ b. b && same xs ys) (none-differs d x y) ∙ and_assoc (eqb d 0) (eqb x y) (same xs ys)
+
+-- the number of the first bytes of a longer string
+pub number-take : (n m : ℕ) (bs : List ℕ) → n ≤ m → number n (take m bs) ≡ number n bs
+unfolding number
+number-take zero m bs le = refl
+number-take (suc n) m bs le =
+    ap (λ a. a * 256 + get_or (take m bs) n 0) (number-take n m bs (omega arith))
+    ∙ ap (λ b. number n bs * 256 + b) (get_or-take m bs n 0 (omega arith))

@@ -8,6 +8,7 @@ use crate::locks::seal_in_place;
 use std::alloc::AllocError;
 
 // Appends the drawn bytes, the inside, and room for the sum.
+// Here and in `append_lock` the drawn bytes and the inside come in the order in which a lock has them.
 fn lay(drawn: &[u8; 16], inside: &[u8], out: &mut Vec<u8>) -> Result<(), AllocError>
     ensures front { (more : List ℕ) × (out.new.items ≡ out.old.items ++ more) }
     ensures long { vec_len out.old ≤ vec_len out.new }
@@ -19,6 +20,7 @@ fn lay(drawn: &[u8; 16], inside: &[u8], out: &mut Vec<u8>) -> Result<(), AllocEr
 }
 
 // Seals what stands from `at` on.
+// A function and no method: all that it is told goes on to `seal_in_place`, the word from `at` on.
 fn seal_from(kind: Kind, key: &[u8; 32], word: &mut [u8], at: usize)
     requires { at ≤ length word.old }
     ensures { word.new ≡ take at word.old ++ sealed (number_of kind) key.now (drop at word.old) }
@@ -27,6 +29,7 @@ fn seal_from(kind: Kind, key: &[u8; 32], word: &mut [u8], at: usize)
 }
 
 // Appends a lock of the kind over the inside, or leaves the word as it was where there is no memory.
+// Not `?` alone: the word is cut back before the error goes on.
 pub fn append_lock(
     kind: Kind,
     key: &[u8; 32],

@@ -8,5 +8,5 @@ mod locks;
 
 pub use append::append_lock;
 pub use bytes::digest;
-pub use kind::Kind;
+pub use kind::{Kind, NoKind};
 pub use locks::{AROUND, Shut, TooShort, inside, open_in_place, seal_in_place};

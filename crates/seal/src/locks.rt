@@ -3,17 +3,35 @@ ghost use Rattle.std.specs.Prelude.{◌≡◌, ℕ, ◌≤◌, not, List, [], �
 ghost use Rattle.hash.specs.Hasher.{Keyed};
 ghost use Rattle.hash.specs.Hmac.{hmac};
 ghost use Rattle.seal.specs.Kind.{number_of};
-ghost use Rattle.seal.specs.Lock.{turned_in, sum, inside_of, opens, sealed, unsealed, OpensAgain, OpensLocks};
+ghost use Rattle.seal.specs.Purpose.{purpose_number};
+ghost use Rattle.seal.specs.Lock.{turned_in, sum, fits, inside_of, opens, sealed, unsealed, OpensAgain, OpensLocks};
 
-use crate::bytes::same_sum;
+use crate::bytes::{front, same_sum};
 use crate::kind::Kind;
 use cipher::chacha20;
 use hash::Hmac;
+
+// What a code is for: the key that the inside is turned with, or the sum. No code serves both.
+#[derive(Clone, Copy)]
+enum Purpose {
+    Key = 1,
+    Sum = 2,
+}
+
+impl Purpose {
+    // The number that stands at the front of what a code is of.
+    fn number(self) -> u8
+        ensures { result ≡ purpose_number self }
+    {
+        self as u8
+    }
+}
 
 // What a lock has besides its inside: 16 drawn bytes and 16 bytes of sum.
 pub const AROUND: usize = 32;
 
 // A word that does not open with this key and kind.
+// Not one with TooShort: opening tells only that it stays shut, sealing only that there is no room.
 #[derive(Drop)]
 pub struct Shut;
 
@@ -22,11 +40,11 @@ pub struct Shut;
 pub struct TooShort;
 
 // The code of a purpose, a kind and more bytes, under the key that `mac` was made of.
-fn code_of(mac: Hmac, purpose: u8, kind: Kind, body: &[u8]) -> [u8; 32]
-    ensures { (key : List ℕ) → Keyed mac key [] → result ≡ hmac key (purpose ∷ number_of kind ∷ body.now) }
+fn code_of(mac: Hmac, purpose: Purpose, kind: Kind, body: &[u8]) -> [u8; 32]
+    ensures { (key : List ℕ) → Keyed mac key [] → result ≡ hmac key (purpose_number purpose ∷ number_of kind ∷ body.now) }
 {
     let mut all = mac;
-    all.update(&[purpose, kind.number()]);
+    all.update(&[purpose.number(), kind.number()]);
     all.update(body);
     all.finish()
 }
@@ -35,9 +53,18 @@ fn code_of(mac: Hmac, purpose: u8, kind: Kind, body: &[u8]) -> [u8; 32]
 fn sum_of(mac: Hmac, kind: Kind, body: &[u8]) -> [u8; 16]
     ensures { (key : List ℕ) → Keyed mac key [] → result ≡ sum (number_of kind) key body.now }
 {
-    let mut sum = [0u8; 16];
-    sum.copy_from_slice(&code_of(mac, 2, kind, body)[0..16]);
-    sum
+    front(&code_of(mac, Purpose::Sum, kind, body))
+}
+
+// Whether a word has room for drawn bytes and a sum, and ends in the sum over the rest.
+fn sum_fits(mac: Hmac, kind: Kind, word: &[u8]) -> bool
+    ensures { (key : List ℕ) → Keyed mac key [] → result ≡ fits (number_of kind) key word.now }
+{
+    if word.len() < AROUND {
+        return false;
+    }
+    let (body, given) = word.split_last_chunk().unwrap();
+    same_sum(given, &sum_of(mac, kind, body))
 }
 
 // Turns what lies between the drawn bytes and the sum.
@@ -45,13 +72,14 @@ fn turn_inside(mac: Hmac, kind: Kind, word: &mut [u8])
     requires { 32 ≤ length word.old }
     ensures { (key : List ℕ) → Keyed mac key [] → word.new ≡ turned_in (number_of kind) key word.old }
 {
-    let mut nonce = [0u8; 12];
-    nonce.copy_from_slice(&word[0..12]);
+    let code = code_of(mac, Purpose::Key, kind, &[]);
+    let nonce = *word.first_chunk::<12>().unwrap();
     let end = word.len() - 16;
-    chacha20(&code_of(mac, 1, kind, &[]), &nonce, 0, &mut word[16..end]);
+    chacha20(&code, &nonce, 0, &mut word[16..end]);
 }
 
 // Makes a lock of a word that has the drawn bytes and the inside in place, and room for the sum.
+// This and `open_in_place` are no methods: whoever calls has the bytes of a key, not its code.
 pub fn seal_in_place(kind: Kind, key: &[u8; 32], word: &mut [u8]) -> Result<(), TooShort>
     ensures word { word.new ≡ sealed (number_of kind) key.now word.old }
     ensures test { is_ok result ≡ not (nat_lt (length word.old) 32) }
@@ -76,17 +104,11 @@ pub fn open_in_place(kind: Kind, key: &[u8; 32], word: &mut [u8]) -> Result<(), 
     ensures again { OpensAgain }
     ensures locks { OpensLocks }
 {
-    if word.len() < AROUND {
+    let mac = Hmac::new(key);
+    if !sum_fits(mac, kind, word) {
         return Err(Shut);
     }
-    let keyed = Hmac::new(key);
-    let end = word.len() - 16;
-    let mut given = [0u8; 16];
-    given.copy_from_slice(&word[end..]);
-    if !same_sum(&given, &sum_of(keyed, kind, &word[0..end])) {
-        return Err(Shut);
-    }
-    turn_inside(keyed, kind, word);
+    turn_inside(mac, kind, word);
     Ok(())
 }
 

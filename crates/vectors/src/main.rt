@@ -2,220 +2,170 @@
 // lines do not agree. The last line that it writes is how many agree.
 #![tactic(auto)]
 
-use anyhow::anyhow;
+use anyhow::ensure;
 use cipher::{State, chacha20};
 use hash::{Hasher, Hmac, hmac_sha256, sha256};
 use seal::{Kind, append_lock, digest, inside, open_in_place};
 use std::alloc::{AllocError, Global};
 use std::io::{BufRead, BufReader};
 
-// What one line says: the kind of vector, and its fields.
+// Why a vector can't be tried.
+#[derive(Debug, Drop)]
+enum Untried {
+    // A field is not there, or is too short, or no kind has its number.
+    NoField,
+    NoMemory(AllocError),
+}
+
+impl From<AllocError> for Untried {
+    fn from(e: AllocError) -> Untried {
+        Untried::NoMemory(e)
+    }
+}
+
+// What one line says: the name of what is tried, and its fields.
+// The fields go by place, since each name has its own number of them.
 #[derive(Drop)]
 struct Vector<'a> {
-    kind: &'a str,
+    name: &'a str,
     fields: Vec<Vec<u8>>,
 }
 
 impl Vector<'_> {
     // A field, and no bytes where there is none.
     fn field(&self, i: usize) -> &[u8] {
-        match self.fields.get(i) {
-            Some(bytes) => bytes.as_slice(),
-            None => &[],
-        }
+        self.fields.get(i).map_or(&[], |bytes| bytes.as_slice())
+    }
+
+    // The first bytes of a field.
+    fn array<const N: usize>(&self, i: usize) -> Result<&[u8; N], Untried> {
+        self.field(i).first_chunk().ok_or(Untried::NoField)
+    }
+
+    // A field of four bytes as a number, high byte first.
+    fn number(&self, i: usize) -> Result<u32, Untried> {
+        let bytes = self.field(i).as_array().ok_or(Untried::NoField)?;
+        Ok(u32::from_be_bytes(*bytes))
+    }
+
+    // A field of one byte as the number of a kind.
+    fn kind(&self, i: usize) -> Result<Kind, Untried> {
+        let [number]: &[u8; 1] = self.field(i).as_array().ok_or(Untried::NoField)?;
+        Kind::try_from(u64::from(*number)).map_err(|_| Untried::NoField)
     }
 }
 
-fn nibble(digit: u8) -> Option<u8> {
-    match digit {
-        b'0'..=b'9' => Some(digit - b'0'),
-        b'a'..=b'f' => Some(digit - b'a' + 10),
-        _ => None,
-    }
-}
-
-// The bytes of a field in hex, or of `-`, which is none.
+// The bytes of a field in hex, in lower case, or of `-`, which is none.
 fn bytes_of(heap: Global, field: &str) -> anyhow::Result<Vec<u8>> {
-    let mut out = Vec::new(heap);
     if field == "-" {
-        return Ok(out);
+        return Ok(Vec::new(heap));
     }
-    for pair in field.as_bytes().chunks(2) {
-        let [high, low] = pair else {
-            return Err(anyhow!("half a byte"));
-        };
-        let (Some(h), Some(l)) = (nibble(*high), nibble(*low)) else {
-            return Err(anyhow!("no hex digit"));
-        };
-        out.push((h << 4) | l)?;
-    }
-    Ok(out)
+    ensure!(
+        !field.bytes().any(|b| b.is_ascii_uppercase()),
+        "no hex digit"
+    );
+    Ok(hex::decode(heap, field)?)
 }
 
+// The vector on a line: its name, and fields with a space before each.
 fn vector_of(heap: Global, line: &str) -> anyhow::Result<Vector<'_>> {
     let mut words = line.split(' ');
-    let kind = words.next().unwrap_or("");
-    let mut fields = Vec::new(heap);
-    for word in words {
-        fields.push(bytes_of(heap, word)?)?;
-    }
-    Ok(Vector { kind, fields })
+    let name = words.next().unwrap_or("");
+    let fields = words.map(|word| bytes_of(heap, word)).try_collect(heap)?;
+    Ok(Vector { name, fields })
 }
 
-fn kind_of(number: &[u8]) -> Option<Kind> {
-    match number {
-        [1] => Some(Kind::Ticket),
-        [2] => Some(Kind::Letter),
-        [3] => Some(Kind::Asking),
-        [4] => Some(Kind::Login),
-        [5] => Some(Kind::Receipt),
-        _ => None,
-    }
-}
-
-// The number of four bytes, high byte first.
-fn number_of(bytes: &[u8]) -> Option<u32> {
-    let [a, b, c, d] = bytes else {
-        return None;
-    };
-    Some(u32::from_be_bytes([*a, *b, *c, *d]))
-}
-
-// Whole, and in two parts.
-fn sha256_agrees(message: &[u8], want: &[u8]) -> bool {
+// A message, whole and in two parts.
+// As for a message under a key; they differ in the type, the key, and where the message is cut.
+fn sha256_agrees(v: &Vector<'_>) -> bool {
+    let (message, want) = (v.field(0), v.field(1));
     let (front, back) = message.split_at(message.len() / 3);
     let mut hasher = Hasher::new();
     hasher.update(front);
     hasher.update(back);
-    let parts = hasher.finish();
-    let whole = sha256(message);
-    want == &whole[..] && want == &parts[..]
+    want == &sha256(message)[..] && want == &hasher.finish()[..]
 }
 
-// One byte, many times.
-fn repeat_agrees(byte: &[u8], count: &[u8], want: &[u8]) -> bool {
-    let Some(n) = number_of(count) else {
-        return false;
-    };
+// The same bytes, many times.
+fn repeat_agrees(v: &Vector<'_>) -> Result<bool, Untried> {
     let mut hasher = Hasher::new();
-    for _ in 0..n {
-        hasher.update(byte);
+    for _ in 0..v.number(1)? {
+        hasher.update(v.field(0));
     }
-    want == &hasher.finish()[..]
+    Ok(v.field(2) == &hasher.finish()[..])
 }
 
-fn hmac_agrees(key: &[u8], message: &[u8], want: &[u8]) -> bool {
+// A message under a key, whole and in two parts.
+fn hmac_agrees(v: &Vector<'_>) -> bool {
+    let (key, message, want) = (v.field(0), v.field(1), v.field(2));
     let (front, back) = message.split_at(message.len() / 2);
     let mut mac = Hmac::new(key);
     mac.update(front);
     mac.update(back);
-    let parts = mac.finish();
-    let whole = hmac_sha256(key, message);
-    want == &whole[..] && want == &parts[..]
+    want == &hmac_sha256(key, message)[..] && want == &mac.finish()[..]
 }
 
-fn block_agrees(key: &[u8], nonce: &[u8], counter: &[u8], want: &[u8]) -> bool {
-    let (Some(k), Some(n), Some(c)) = (
-        key.first_chunk::<32>(),
-        nonce.first_chunk::<12>(),
-        number_of(counter),
-    ) else {
-        return false;
-    };
-    want == &State::new(k, n, c).block()[..]
+// The 64 bytes of the key stream at a counter.
+fn block_agrees(v: &Vector<'_>) -> Result<bool, Untried> {
+    let state = State::new(v.array(0)?, v.array(1)?, v.number(2)?);
+    Ok(v.field(3) == &state.block()[..])
 }
 
-fn chacha20_agrees(
-    key: &[u8],
-    nonce: &[u8],
-    counter: &[u8],
-    bytes: &mut [u8],
-    want: &[u8],
-) -> bool {
-    let (Some(k), Some(n), Some(c)) = (
-        key.first_chunk::<32>(),
-        nonce.first_chunk::<12>(),
-        number_of(counter),
-    ) else {
-        return false;
-    };
-    chacha20(k, n, c, bytes);
-    want == &bytes[..]
+// Bytes turned, from a counter on.
+fn chacha20_agrees(heap: Global, v: &Vector<'_>) -> Result<bool, Untried> {
+    let mut bytes = v.field(3).to_vec(heap)?;
+    chacha20(v.array(0)?, v.array(1)?, v.number(2)?, bytes.as_mut_slice());
+    Ok(v.field(4) == bytes.as_slice())
 }
 
-fn digest_agrees(key: &[u8], number: &[u8], want: &[u8]) -> bool {
-    let (Some(k), Some(n), Some(w)) = (
-        key.first_chunk::<32>(),
-        number.first_chunk::<16>(),
-        want.first_chunk::<16>(),
-    ) else {
-        return false;
-    };
-    digest(k, n) == u128::from_be_bytes(*w)
+// The digest of a key and a number.
+fn digest_agrees(v: &Vector<'_>) -> Result<bool, Untried> {
+    Ok(digest(v.array(0)?, v.array(1)?) == u128::from_be_bytes(*v.array(2)?))
 }
 
 // Made, and opened: the inside comes out.
-fn lock_agrees(heap: Global, vector: &Vector<'_>) -> Result<bool, AllocError> {
-    let (Some(kind), Some(key), Some(drawn)) = (
-        kind_of(vector.field(0)),
-        vector.field(1).first_chunk::<32>(),
-        vector.field(2).first_chunk::<16>(),
-    ) else {
-        return Ok(false);
-    };
+fn lock_agrees(heap: Global, v: &Vector<'_>) -> Result<bool, Untried> {
+    let (kind, key) = (v.kind(0)?, v.array(1)?);
     let mut word = Vec::new(heap);
-    append_lock(kind, key, drawn, vector.field(3), &mut word)?;
-    let made = vector.field(4) == word.as_slice();
+    append_lock(kind, key, v.array(2)?, v.field(3), &mut word)?;
+    let made = v.field(4) == word.as_slice();
     let opened = open_in_place(kind, key, word.as_mut_slice()).is_ok();
-    Ok(made && opened && vector.field(3) == inside(word.as_slice()))
+    Ok(made && opened && v.field(3) == inside(word.as_slice()))
 }
 
 // Does not open, and stays as it was.
-fn shut_agrees(heap: Global, vector: &Vector<'_>) -> Result<bool, AllocError> {
-    let (Some(kind), Some(key)) = (
-        kind_of(vector.field(0)),
-        vector.field(1).first_chunk::<32>(),
-    ) else {
-        return Ok(false);
-    };
-    let mut word = vector.field(2).to_vec(heap)?;
-    let opened = open_in_place(kind, key, word.as_mut_slice()).is_ok();
-    Ok(!opened && vector.field(2) == word.as_slice())
+fn shut_agrees(heap: Global, v: &Vector<'_>) -> Result<bool, Untried> {
+    let mut word = v.field(2).to_vec(heap)?;
+    let opened = open_in_place(v.kind(0)?, v.array(1)?, word.as_mut_slice()).is_ok();
+    Ok(!opened && v.field(2) == word.as_slice())
 }
 
-fn agrees(heap: Global, v: &Vector<'_>) -> Result<bool, AllocError> {
-    match v.kind {
-        "sha256" => Ok(sha256_agrees(v.field(0), v.field(1))),
-        "repeat" => Ok(repeat_agrees(v.field(0), v.field(1), v.field(2))),
-        "hmac" => Ok(hmac_agrees(v.field(0), v.field(1), v.field(2))),
-        "block" => Ok(block_agrees(v.field(0), v.field(1), v.field(2), v.field(3))),
-        "chacha20" => {
-            let mut bytes = v.field(3).to_vec(heap)?;
-            Ok(chacha20_agrees(
-                v.field(0),
-                v.field(1),
-                v.field(2),
-                bytes.as_mut_slice(),
-                v.field(4),
-            ))
-        }
-        "digest" => Ok(digest_agrees(v.field(0), v.field(1), v.field(2))),
+// Whether what the vector's name says gives what the vector wants.
+fn agrees(heap: Global, v: &Vector<'_>) -> Result<bool, Untried> {
+    match v.name {
+        "sha256" => Ok(sha256_agrees(v)),
+        "repeat" => repeat_agrees(v),
+        "hmac" => Ok(hmac_agrees(v)),
+        "block" => block_agrees(v),
+        "chacha20" => chacha20_agrees(heap, v),
+        "digest" => digest_agrees(v),
         "lock" => lock_agrees(heap, v),
         "shut" => shut_agrees(heap, v),
         _ => Ok(false),
     }
 }
 
+// Counted by hand, since each line may end the program.
 fn main(rt: HostRuntime) -> anyhow::Result<()> {
     let heap = rt.alloc();
     let mut agreeing = 0u64;
     for (n, line) in BufReader::new(heap, rt.stdin())?.lines(heap).enumerate() {
         let text = line?;
         let vector = vector_of(heap, text.as_str())?;
-        if agrees(heap, &vector)? {
-            agreeing = agreeing.saturating_add(1);
-        } else {
-            println!(rt; "vector {n} does not agree")?;
+        match agrees(heap, &vector) {
+            Ok(true) => agreeing = agreeing.saturating_add(1),
+            Ok(false) | Err(Untried::NoField) => println!(rt; "vector {n} does not agree")?,
+            Err(Untried::NoMemory(e)) => return Err(e.into()),
         }
     }
     println!(rt; "{agreeing}")?;

@@ -8,8 +8,8 @@ loop-round-init c = sym (rounds-none c.args.s.now)
 
 pub loop-round-preserved : goal.loop-round-preserved
 loop-round-preserved c =
-    rounds-more c.loop-round._round c.args.s.now c.loop-round.w c.inner_block.new.s
-    c.loop-round.invariant c.inner_block.ensures
+    rounds-more c.loop-round._round c.args.s.now c.loop-round.w c.inner_block-next.result
+    c.loop-round.invariant c.inner_block-next.ensures
 
 pub returns : goal.returns
 returns c =

@@ -1,7 +1,8 @@
-use Rattle.std.proofs.Common.{◌≡◌}
-use Rattle.hash.specs.Sha256.{blocks}
+use Rattle.std.proofs.Common.{◌≡◌, take}
+use Rattle.std.specs.List.{fold}
+use Rattle.hash.specs.Sha256.{compressed}
 use Rattle.hash.proofs.block.absorb.Given as goal
 
--- n blocks are taken in
-abbrev pub invariant-loop-n : goal.invariant-loop-n
-invariant-loop-n l = l.state ≡ blocks l.n l.bytes l.initial.state
+-- the blocks so far are taken in
+abbrev pub invariant-loop-block : goal.invariant-loop-block
+invariant-loop-block l = l.state ≡ fold compressed l.initial.state (take l.block-index l.blocks)

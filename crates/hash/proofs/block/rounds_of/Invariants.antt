@@ -1,7 +1,7 @@
-use Rattle.std.proofs.Common.{◌≡◌, ◌*◌}
+use Rattle.std.proofs.Common.{◌≡◌, ◌*◌, length}
 use Rattle.hash.specs.Sha256.{rounds}
 use Rattle.hash.proofs.block.rounds_of.Given as goal
 
--- eight times i rounds are done
-abbrev pub invariant-loop-i : goal.invariant-loop-i
-invariant-loop-i l = l.s ≡ rounds (8 * l.i) l.w l.state
+-- eight rounds are done for each pair so far
+abbrev pub invariant-loop-k : goal.invariant-loop-k
+invariant-loop-k l = l.s ≡ rounds (8 * length l.yielded) l.w l.state

@@ -1,14 +1,8 @@
-use Rattle.std.proofs.Common.{◌≡◌, length, take, vec_items, sym, ap, ◌∙◌}
-use Rattle.std.proofs.lemmas.List.{with_items_is, take_at}
+use Rattle.std.proofs.Common.{◌≡◌, length, vec_items, sym, ◌∙◌}
+use Rattle.std.proofs.lemmas.List.{with_items_is}
 use Rattle.seal.specs.Kind.{number_of}
 use Rattle.seal.proofs.Appending.{appended}
 use Rattle.seal.proofs.append.append_lock.Goals as goal
-
-pub returns-in-Err : goal.returns-in-Err
-returns-in-Err c =
-    let out = c.args.out.now in
-    let n : length (vec_items out) ≡ c.len-at.result = sym out.ok.0 ∙ sym c.len-at.ensures in
-    c.truncate.ensures.items ∙ ap (take c.len-at.result) c.lay.ensures.front.1 ∙ take_at (vec_items out) _ _ n
 
 pub returns : goal.returns
 returns c =

@@ -4,4 +4,4 @@ use Rattle.seal.proofs.locks.sum_of.Goals as goal
 
 pub returns : goal.returns
 unfolding sum
-returns c key h = c.copy_from_slice.ensures.after ∙ ap (take 16) (c.code_of.ensures key h)
+returns c key h = c.front.ensures ∙ ap (take 16) (c.code_of.ensures key h)

@@ -1,4 +1,4 @@
-use Rattle.std.proofs.Common.{refl, arith, rules}
+use Rattle.std.proofs.Common.{arith, rules}
 use Rattle.hash.proofs.Parts.{holds-short, holds-long}
 use Rattle.hash.proofs.message.Hasher.update.Goals as goal
 
@@ -9,7 +9,7 @@ returns-then-bytes-filled c m h =
 
 pub returns : goal.returns
 returns c m h =
-    holds-long c.args.self.now m c.args.bytes.now _ _ c.put-2.new.buffer c.compress.new.state
+    holds-long c.args.self.now m c.args.bytes.now _ _ c.put-2.new.buffer c.compress.new.state _
     c.absorb.new.state _ c.put-3.new.buffer
     (search rules) h (omega arith) c.split_at.ensures.front c.split_at.ensures.back
-    c.put-2.ensures c.compress.ensures c.absorb.ensures refl c.put-3.ensures
+    c.put-2.ensures c.compress.ensures c.as_chunks.ensures.front c.absorb.ensures c.as_chunks.ensures.back c.put-3.ensures
