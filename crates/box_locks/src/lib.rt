@@ -1,7 +1,6 @@
 // The locks that a reader's box makes, put into a word under way: of logins and of askings.
 #![tactic(auto)]
 
-mod append;
-mod lay;
+mod appending;
 
-pub use append::{append_asking, append_login};
+pub use appending::{ASKING_MOST, append_asking, append_login};

@@ -12,7 +12,7 @@ use Rattle.parts.specs.declared.word.Ticket.{Ticket}
 use Rattle.parts.specs.declared.word.Letter.{Letter}
 use Rattle.parts.specs.declared.word.Login.{Login}
 use Rattle.parts.specs.declared.word.Receipt.{Receipt}
-use Rattle.contents.specs.declared.inside.Asking.{Asking}
+use Rattle.contents.specs.declared.asking.Asking.{Asking}
 use Rattle.contents.specs.Field.{bytes_of, number, part}
 
 -- a key of these bytes

@@ -3,13 +3,15 @@
 -- Locks                   a way to lock and to open bytes, and to take the digest of a key and a number
 -- ours                    the way of this code: the locks of the crate seal
 -- opened_as read o        what an opened inside reads as: 3 where the lock did not open, 4 where it can't be read
--- ticket_in .. receipt_in what a lock has inside, by a key
--- ticket_lock ..          the bytes of a lock that is made
+-- inside_in read kind     what a lock of a kind has inside, by a key; ticket_in .. for each kind
+-- lock_of written kind    the bytes of a lock that is made; ticket_lock .. for each kind
+-- asked_of, words_in ..   an asking by value, and its words
 -- refusal_word f          the word of a refusal
--- words_in w              the words of an asking; what_in bs the same, as a value of fixed size
-use Rattle.std.specs.Prelude.{ℕ, ◌-◌, List, ◌++◌, length, take, replicate, Some, None, Ok, Err, Option, Result}
-use Rattle.contents.specs.Inside.{Asked, read_asking, read_login, read_ticket, write_asking, write_letter, write_login, write_receipt, write_ticket}
+use Rattle.std.specs.Prelude.{ℕ, List, Some, None, Err, Option, Result}
+pub use Rattle.contents.specs.ByValue.{asked_of, asking_of, asking_ok}
+use Rattle.contents.specs.Inside.{read_asking, read_login, read_ticket, write_asking, write_letter, write_login, write_receipt, write_ticket}
 use Rattle.parts.specs.Fault.{class_of}
+pub use Rattle.parts.specs.What.{what_in, words_in}
 use Rattle.parts.specs.declared.fault.Fault.{Fault}
 use Rattle.parts.specs.declared.fault.Fault.TheVariants.{LockFails}
 use Rattle.parts.specs.declared.lock.Lock.{Lock}
@@ -20,7 +22,6 @@ use Rattle.parts.specs.declared.word.Login.{Login}
 use Rattle.parts.specs.declared.word.Number.{Number}
 use Rattle.parts.specs.declared.word.Receipt.{Receipt}
 use Rattle.parts.specs.declared.word.Ticket.{Ticket}
-use Rattle.parts.specs.declared.word.What.{What}
 use Rattle.seal.specs.Lock as seal
 use Rattle.std.specs.Option.{option_map}
 use Rattle.wire.specs.Word.{refusal, write_word}
@@ -38,26 +39,6 @@ pub record Locks : Type 0 where
 abbrev pub ours : Locks
 ours = record { lock = seal.lock; opens = seal.opens; digest = seal.digest }
 
--- the words of an asking: the first bytes of what it holds
-abbrev pub words_in : What → Bytes
-words_in w = take w.len w.bytes
-
--- words as a value of fixed size, with zeros behind them
-abbrev pub what_in : Bytes → What
-what_in bs = record { len = length bs; bytes = bs ++ replicate (1024 - length bs) 0 }
-
--- an asking with the very bytes that are asked
-abbrev pub asked_of : Asking → Asked
-asked_of q = record { service = q.service; number = q.number; what = words_in q.what; tick = q.tick }
-
--- an asking by value
-abbrev pub asking_of : Asked → Asking
-asking_of a = record { service = a.service; number = a.number; what = what_in a.what; tick = a.tick }
-
-abbrev pub asking_ok : Result Asked Fault → Result Asking Fault
-asking_ok (Ok a) = Ok (asking_of a)
-asking_ok (Err f) = Err f
-
 -- reading what came out of a lock, if it opened
 abbrev pub opened_as : {X : Type 0} → (Bytes → Result X Fault) → Option Bytes → Result X Fault
 opened_as read None = Err LockFails
@@ -67,7 +48,11 @@ opened_as read (Some inside) = read inside
 abbrev pub digest_of : Locks → Key → Number → ℕ
 digest_of l k n = l.digest k.0 n.0
 
--- what a lock has inside, opened as its kind with a key
+-- what a lock of a kind has inside, opened with a key
+abbrev pub inside_in : {X : Type 0} → (Bytes → Result X Fault) → ℕ → Locks → Key → Bytes → Result X Fault
+inside_in read kind l k w = opened_as read (l.opens kind k.0 w)
+
+-- the same of each kind
 abbrev pub ticket_in : Locks → Key → Bytes → Result Ticket Fault
 ticket_in l k w = opened_as read_ticket (l.opens 1 k.0 w)
 
@@ -77,7 +62,11 @@ asking_in l k w = opened_as (λ x. asking_ok (read_asking x)) (l.opens 3 k.0 w)
 abbrev pub login_in : Locks → Key → Bytes → Result Login Fault
 login_in l k w = opened_as read_login (l.opens 4 k.0 w)
 
--- the bytes of a lock of each kind
+-- the bytes of a lock of a kind
+abbrev pub lock_of : {X : Type 0} → (X → Bytes) → ℕ → Locks → Lock X → Bytes
+lock_of written kind l x = l.lock kind x.key.0 x.salt.0 (written x.inside)
+
+-- the same of each kind
 abbrev pub ticket_lock : Locks → Lock Ticket → Bytes
 ticket_lock l x = l.lock 1 x.key.0 x.salt.0 (write_ticket x.inside)
 

@@ -4,8 +4,8 @@
 -- Copied o r    r is a copy of the lock with its inside o in place, or 3 where it does not open, or there was no memory
 use Rattle.std.specs.Prelude.{◌≡◌, ℕ, Some, None, Ok, Err, vec_items, Option, Result, Vec}
 use Rattle.locked.specs.Locked.{Bytes}
-use Rattle.locked.specs.declared.open.Unopened.{Unopened}
-use Rattle.locked.specs.declared.open.Unopened.TheVariants.{NoMemory, Wrong}
+use Rattle.locked.specs.declared.unopened.Unopened.{Unopened}
+use Rattle.locked.specs.declared.unopened.Unopened.TheVariants.{NoMemory, Wrong}
 use Rattle.parts.specs.declared.fault.Fault.{Fault}
 use Rattle.parts.specs.declared.fault.Fault.TheVariants.{LockFails}
 use Rattle.seal.specs.Lock.{inside_of}

@@ -1,1 +1,1 @@
-pub mod Laid
+mod Laid

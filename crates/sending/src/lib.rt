@@ -1,9 +1,8 @@
-// What the house and the services send: contents written and locked, and the words around the locks.
+// What the house and the services send: the words around the locks that they make, and what they note beside.
 #![tactic(auto)]
 
-mod make;
-mod put;
+mod heard;
 mod word;
 
-pub use make::{seal_letter, seal_receipt, seal_ticket};
-pub use word::{grant_word, receipt_word, refusal_word};
+pub use heard::{Heard, Sent};
+pub use word::{grant_word, receipt_word, refusal_word, seal_letter, seal_receipt, seal_ticket};

@@ -1,42 +1,47 @@
 // The words that the house and the services send, each in an array of its length.
-ghost use Rattle.std.specs.Prelude.{◌≡◌, ◌+◌, ◌++◌, length};
+ghost use Rattle.std.specs.Prelude.{◌≡◌};
 ghost use Rattle.locked.specs.Locked.{letter_lock, ours, receipt_lock, refusal_word, ticket_lock};
 ghost use Rattle.wire.specs.Word as frame;
 
-use crate::make::{seal_letter, seal_receipt, seal_ticket};
-use crate::put::put;
+use locked::{frame_into, lock_into};
 use parts::{Fault, Letter, Lock, Receipt, Ticket};
+use wire::WordKind;
 
-// The first byte of each word.
-const TICKET_AND_LETTER: u8 = 2;
-
-const RECEIPT: u8 = 4;
-
-const REFUSAL: u8 = 5;
-
-// Fills a memory with some bytes and others behind them.
-fn join(out: &mut [u8], front: &[u8], back: &[u8])
-    requires { length out.old ≡ length front.now + length back.now }
-    ensures { out.new ≡ front.now ++ back.now }
+// The lock of a ticket.
+pub fn seal_ticket(lock: &Lock<Ticket>) -> [u8; 77]
+    ensures { result ≡ ticket_lock ours lock.now }
 {
-    put(out, 0, front);
-    put(out, front.len(), back);
+    let mut out = [0; 77];
+    lock_into(lock, &mut out);
+    out
+}
+
+// The lock of a letter.
+pub fn seal_letter(lock: &Lock<Letter>) -> [u8; 91]
+    ensures { result ≡ letter_lock ours lock.now }
+{
+    let mut out = [0; 91];
+    lock_into(lock, &mut out);
+    out
+}
+
+// The lock of a receipt.
+pub fn seal_receipt(lock: &Lock<Receipt>) -> [u8; 49]
+    ensures { result ≡ receipt_lock ours lock.now }
+{
+    let mut out = [0; 49];
+    lock_into(lock, &mut out);
+    out
 }
 
 // The word of a ticket and a letter: each lock has its length before it.
 pub fn grant_word(ticket: &Lock<Ticket>, letter: &Lock<Letter>) -> [u8; 173]
     ensures { result ≡ frame.write_word (frame.ticket_and_letter (ticket_lock ours ticket.now) (letter_lock ours letter.now)) }
 {
-    let mut front = [0; 80];
-    join(
-        &mut front,
-        &[TICKET_AND_LETTER, 0, 77],
-        &seal_ticket(ticket),
-    );
-    let mut back = [0; 93];
-    join(&mut back, &[0, 91], &seal_letter(letter));
     let mut out = [0; 173];
-    join(&mut out, &front, &back);
+    out[0] = WordKind::TicketAndLetter.number();
+    frame_into(ticket, &mut out[1..80]);
+    frame_into(letter, &mut out[80..]);
     out
 }
 
@@ -45,7 +50,8 @@ pub fn receipt_word(lock: &Lock<Receipt>) -> [u8; 52]
     ensures { result ≡ frame.write_word (frame.receipt (receipt_lock ours lock.now)) }
 {
     let mut out = [0; 52];
-    join(&mut out, &[RECEIPT, 0, 49], &seal_receipt(lock));
+    out[0] = WordKind::Receipt.number();
+    frame_into(lock, &mut out[1..]);
     out
 }
 
@@ -53,8 +59,6 @@ pub fn receipt_word(lock: &Lock<Receipt>) -> [u8; 52]
 pub fn refusal_word(fault: Fault) -> Option<[u8; 2]>
     ensures { result ≡ refusal_word fault }
 {
-    match fault.class() {
-        Some(class) => Some([REFUSAL, class.number()]),
-        None => None,
-    }
+    let class = fault.class()?;
+    Some([WordKind::Refusal.number(), class.number()])
 }

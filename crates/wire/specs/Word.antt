@@ -49,10 +49,6 @@ fits (asking ticket lock) = cond (lock_fits ticket) (lock_fits lock) false
 fits (receipt lock) = lock_fits lock
 fits (refusal class) = true
 
--- the number in the first two bytes, if there are two
-abbrev pub first_number : List ℕ → Option ℕ
-first_number bs = cond (nat_le 2 (length bs)) (Some (number (part 0 2 bs))) None
-
 -- the length that stands before a lock
 abbrev pub lock_length : List ℕ → ℕ
 lock_length bs = number (part 0 2 bs)
