@@ -1,13 +1,11 @@
 -- A box does not look into its tickets: what it answers is the same however they are seen, and what it is afterwards
 -- is seen as it was. Assumes nothing.
-use Rattle.std.proofs.Common.{◌≡◌, ℕ, ◌+◌, Bool, true, false, cond, not, ◌&&◌, ◌||◌, eqb, List, [], ◌∷◌, ◌++◌, map, Some, None, Option, sym, refl, ap, ◌∙◌}
+use Rattle.std.proofs.Common.{◌≡◌, ℕ, ◌+◌, Bool, true, false, cond, not, ◌&&◌, ◌||◌, eqb, List, [], ◌∷◌, ◌++◌, map, filter, reverse, Some, None, Err, Option, sym, refl, ap, ◌∙◌}
 use Rattle.box_rules.specs.Chest.{Boxed, asked, box_on_tick, fresh, ticket_of}
 use Rattle.box_rules.specs.Keys.{holds, house_keys, is_house, is_stray, letter_keys, receipt_keys, stray_keys}
 use Rattle.box_rules.specs.Letter.{letter_conditions, pending_for, settled, stored, taken, taken_after, taken_by, taken_from}
 use Rattle.box_rules.specs.Line as line
-use Rattle.box_rules.specs.Line.{line_conditions, line_judged, line_of, pass_by, pass_of, sent_after, unread, wanted_after}
-use Rattle.box_rules.specs.declared.answer.Answer.{Answer}
-use Rattle.box_rules.specs.declared.answer.Answer.TheVariants.{Wrong}
+use Rattle.box_rules.specs.Line.{Told, line_conditions, line_judged, line_of, pass_by, pass_of, sent_after, unread, wanted_after}
 use Rattle.box_rules.specs.declared.line.Held.{Held}
 use Rattle.box_rules.specs.declared.line.Line.{Line}
 use Rattle.box_rules.specs.declared.line.Pass.{Pass}
@@ -23,6 +21,7 @@ use Rattle.parts.specs.declared.word.What.{What}
 use Rattle.std.proofs.lemmas.List.{take-map}
 use Rattle.std.specs.Option.{option_map}
 use Rattle.std.specs.Str.{bytes_eq}
+use mathlib.Core.List.{reverse_aux}
 
 -- what is known of a ticket
 pub pass_of-by : {T U : Type 0} (f : T → U) (i : ℕ) (hs : List (Held T)) → pass_of i (map (held_by f) hs) ≡ pass_of i hs
@@ -44,9 +43,25 @@ ticket_of-by {T} {U} f i (h ∷ hs) =
     by false = refl
 
 -- which keys are tried
+kept-by : {T U : Type 0} (f : T → U) (hs : List (Held T)) →
+    map (λ (h : Held U). h.pass.key) (filter is_house (map (held_by f) hs)) ≡ map (λ (h : Held T). h.pass.key) (filter is_house hs)
+kept-by f [] = refl
+kept-by {T} {U} f (h ∷ hs) = by (is_house h) (kept-by f hs)
+  where
+    by : (b : Bool) → map (λ (x : Held U). x.pass.key) (filter is_house (map (held_by f) hs)) ≡ map (λ (x : Held T). x.pass.key) (filter is_house hs) →
+        map (λ (x : Held U). x.pass.key) (cond b (held_by f h ∷ filter is_house (map (held_by f) hs)) (filter is_house (map (held_by f) hs)))
+        ≡ map (λ (x : Held T). x.pass.key) (cond b (h ∷ filter is_house hs) (filter is_house hs))
+    by true e = ap (λ (ks : List Key). h.pass.key ∷ ks) e
+    by false e = e
+
+reversed-by : {X Y : Type 0} (f : X → Y) (xs ys : List X) → reverse_aux (map f xs) (map f ys) ≡ map f (reverse_aux xs ys)
+reversed-by f [] ys = refl
+reversed-by f (x ∷ xs) ys = reversed-by f xs (x ∷ ys)
+
 pub house_keys-by : {T U : Type 0} (f : T → U) (hs : List (Held T)) → house_keys (map (held_by f) hs) ≡ house_keys hs
-house_keys-by f [] = refl
-house_keys-by f (h ∷ hs) = ap (λ (ks : List Key). ks ++ cond (is_house h) (h.pass.key ∷ []) []) (house_keys-by f hs)
+house_keys-by {T} {U} f hs =
+    ap (λ (l : List (Held U)). map (λ (h : Held U). h.pass.key) (filter is_house l)) (reversed-by (held_by f) hs [])
+    ∙ kept-by f (reverse hs)
 
 pub holds_by : {T U : Type 0} (f : T → U) (k : Key) (hs : List (Held T)) → holds k (map (held_by f) hs) ≡ holds k hs
 holds_by f k [] = refl
@@ -55,11 +70,14 @@ holds_by f k (h ∷ hs) = ap (λ (b : Bool). (is_house h && bytes_eq h.pass.key.
 pub is_stray-by : {T U : Type 0} (f : T → U) (hs : List (Held T)) (p : Pending) → is_stray (map (held_by f) hs) p ≡ is_stray hs p
 is_stray-by f hs p = ap (λ (b : Bool). eqb p.asks 0 && not b) (holds_by f p.key hs)
 
+strays-by : {T U : Type 0} (f : T → U) (hs : List (Held T)) (ps : List Pending) → filter (is_stray (map (held_by f) hs)) ps ≡ filter (is_stray hs) ps
+strays-by f hs [] = refl
+strays-by f hs (p ∷ ps) =
+    ap (λ (l : List Pending). cond (is_stray (map (held_by f) hs) p) (p ∷ l) l) (strays-by f hs ps)
+    ∙ ap (λ (b : Bool). cond b (p ∷ filter (is_stray hs) ps) (filter (is_stray hs) ps)) (is_stray-by f hs p)
+
 pub stray_keys-by : {T U : Type 0} (f : T → U) (hs : List (Held T)) (ps : List Pending) → stray_keys (map (held_by f) hs) ps ≡ stray_keys hs ps
-stray_keys-by f hs [] = refl
-stray_keys-by f hs (p ∷ ps) =
-    ap (λ (ks : List Key). ks ++ cond (is_stray (map (held_by f) hs) p) (p.key ∷ []) []) (stray_keys-by f hs ps)
-    ∙ ap (λ (b : Bool). stray_keys hs ps ++ cond b (p.key ∷ []) []) (is_stray-by f hs p)
+stray_keys-by f hs ps = ap (λ (l : List Pending). map (λ (p : Pending). p.key) l) (strays-by f hs (reverse ps))
 
 pub letter_keys-by : {T U : Type 0} (f : T → U) (b : Boxed T) → letter_keys (boxed_by f b) ≡ letter_keys b
 letter_keys-by f b =
@@ -104,10 +122,10 @@ pub wanted_by : {T U : Type 0} (f : T → U) (b : Boxed T) (v : ℕ) (by : Optio
     line.wanted (boxed_by f b) v by w ≡ line.wanted b v by w
 wanted_by f b v by w =
     ap
-    (λ (o : Option Pass). cond (unread b.lines v w) (Wrong OutOfRange) (unless (first_fault (line_judged b.now b.left v by o)) (line.sent_by (boxed_by f b) o (line_of b v w)) Wrong))
+    (λ (o : Option Pass). cond (unread b.lines v w) (Err OutOfRange) (unless (first_fault (line_judged b.now b.left v by o)) (line.sent_by (boxed_by f b) o (line_of b v w)) Err))
     (pass_by-by f by b.tickets)
     ∙ ap
-    (λ (a : Answer). cond (unread b.lines v w) (Wrong OutOfRange) (unless (first_fault (line_conditions b v by)) a Wrong))
+    (λ (a : Told). cond (unread b.lines v w) (Err OutOfRange) (unless (first_fault (line_conditions b v by)) a Err))
     (sent_by-by f b (pass_by by b.tickets) (line_of b v w))
 
 pub wanted_after-by : {T U : Type 0} (f : T → U) (b : Boxed T) (v : ℕ) (by : Option ℕ) (w : What) →
@@ -132,7 +150,7 @@ taken_by-by f b l (Some p) = refl
 
 pub taken-by : {T U : Type 0} (f : T → U) (b : Boxed T) (u : Under) (l : Letter) → taken (boxed_by f b) u l ≡ taken b u l
 taken-by f b u l =
-    ap (λ (a : Answer). unless (first_fault (letter_conditions b u l)) a Wrong) (taken_by-by f b l (pending_for b u l))
+    ap (λ (a : Told). unless (first_fault (letter_conditions b u l)) a Err) (taken_by-by f b l (pending_for b u l))
 
 stored-by : {T U : Type 0} (f : T → U) (b : Boxed T) (l : Letter) (t : T) → boxed_by f (stored b l t) ≡ stored (boxed_by f b) l (f t)
 stored-by {T} {U} f b l t =

@@ -1,10 +1,10 @@
 -- The first key that opens a lock, one key after the other. Assumes nothing.
-use Rattle.std.proofs.Common.{◌≡◌, ℕ, suc, ◌+◌, ◌<◌, ◌≤◌, true, false, List, [], length, get_or, drop, is_some, Some, None, Option, sym, refl, ap, ◌∙◌, ⊎_elim, add-one, arith}
+use Rattle.std.proofs.Common.{◌≡◌, ℕ, suc, ◌+◌, ◌<◌, true, false, List, [], length, get_or, drop, is_some, Some, None, Option, sym, refl, ap, ◌∙◌, ⊎_elim, add-one, arith}
 use Rattle.box_side.specs.Box.{opens_first}
 use Rattle.locked.specs.Locked.{Bytes, Tried, ours}
 use Rattle.parts.specs.declared.word.Key.{Key}
 use Rattle.seal.specs.Lock.{fits, opens, unsealed}
-use Rattle.std.proofs.lemmas.List.{at_drop_all, at_drop_more}
+use Rattle.std.proofs.lemmas.List.{at_drop_more}
 use Rattle.std.proofs.lemmas.Bool.{cases_Bool, cond-false, cond-true}
 
 -- what stands where there is no key
@@ -57,7 +57,3 @@ module _ (kind : ℕ) (ks : List Key) (i : ℕ) (w : Bytes) where
   pub here : (x : Bytes) → i < length ks → opens kind (get_or ks i no_key).0 w ≡ Some x →
       opens_first ours kind i (drop i ks) w ≡ Some (record { place = i; key = get_or ks i no_key; inside = x })
   here x h e = at_key h ∙ ap decided e
-
-  -- none is left
-  pub ended : length ks ≤ i → opens_first ours kind i (drop i ks) w ≡ None
-  ended h = at_drop_all (λ (l : List Key). opens_first ours kind i l w) ks i h

@@ -4,13 +4,13 @@
 -- Read                       what a word is to a box: a ticket and a letter, a receipt, a refusal, or what is wrong
 -- read_at_box l b w          the word w, at the box b
 -- answer_to b r              what the box answers to it, by its decision; after_word: what it is then
--- sent_by l b a              the bytes that go out with an answer of a box that is then b, and to whom
+-- sent_by l b a              the bytes that go out with what a box that is then b tells, and to whom
 use Rattle.std.specs.Prelude.{ℕ, suc, cond, List, [], ◌∷◌, Some, None, Ok, Err, Option, ◌==◌}
 use Rattle.box_rules.specs.Chest.{Boxed, ticket_of}
 use Rattle.box_rules.specs.Keys.{letter_keys, receipt_keys}
 use Rattle.box_rules.specs.Letter.{confirmed, taken, taken_after}
-use Rattle.box_rules.specs.declared.answer.Answer.{Answer}
-use Rattle.box_rules.specs.declared.answer.Answer.TheVariants.{Asks, LogsIn, Receipt as Confirms, Shown, Takes, Wrong}
+use Rattle.box_rules.specs.Line.{Told}
+use Rattle.box_rules.specs.declared.answer.Answer.TheVariants.{Asks, LogsIn, Receipt as Confirms, Shown, Takes}
 use Rattle.box_rules.specs.declared.line.Under.{Under}
 use Rattle.box_rules.specs.declared.line.Under.TheVariants.{Own, Session}
 use Rattle.contents.specs.Inside.{read_letter, read_receipt}
@@ -64,11 +64,11 @@ abbrev pub read_at_box : Locks → Boxed Bytes → Bytes → Read
 read_at_box l b w = elim (framed w) [ Ok f ↦ read_frame l b f | Err f ↦ wrong f ]
 
 -- what was read is decided
-abbrev pub answer_to : Boxed Bytes → Read → Answer
+abbrev pub answer_to : Boxed Bytes → Read → Told
 answer_to b (brings ticket u x) = taken b u x
 answer_to b (confirms k r) = confirmed b.askings k r
-answer_to b (refuses c) = Shown c
-answer_to b (wrong f) = Wrong f
+answer_to b (refuses c) = Ok (Shown c)
+answer_to b (wrong f) = Err f
 
 -- only a letter changes a box
 abbrev pub after_word : Boxed Bytes → Read → Boxed Bytes
@@ -88,10 +88,10 @@ asking_sent l None q = None
 asking_sent l (Some ticket) q =
     Some (record { to = q.inside.service; word = write_word (frame.asking ticket (asking_lock l q)) })
 
-abbrev pub sent_by : Locks → Boxed Bytes → Answer → Option Sent
-sent_by l b (LogsIn x) = Some (record { to = 0; word = write_word (frame.login b.number (login_lock l x)) })
-sent_by l b (Asks i q) = asking_sent l (ticket_of i b.tickets) q
-sent_by l b (Takes g q) = asking_sent l (ticket_of g.id b.tickets) q
-sent_by l b (Confirms n) = None
-sent_by l b (Shown c) = None
-sent_by l b (Wrong f) = None
+abbrev pub sent_by : Locks → Boxed Bytes → Told → Option Sent
+sent_by l b (Ok (LogsIn x)) = Some (record { to = 0; word = write_word (frame.login b.number (login_lock l x)) })
+sent_by l b (Ok (Asks i q)) = asking_sent l (ticket_of i b.tickets) q
+sent_by l b (Ok (Takes g q)) = asking_sent l (ticket_of g.id b.tickets) q
+sent_by l b (Ok (Confirms n)) = None
+sent_by l b (Ok (Shown c)) = None
+sent_by l b (Err f) = None

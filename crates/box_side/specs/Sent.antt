@@ -3,19 +3,17 @@
 -- front_of o            the part before: of an asking its kind and its ticket, of any other nothing
 -- login_bytes n x       a login's word
 -- sent_with n front a   the word that goes out with an answer, where the part before is that
--- Roomy front v         v has the part before, and room for the rest
 -- ticket_by by hs       the ticket that a line names, if it names one that is held
-use Rattle.std.specs.Prelude.{◌≡◌, ℕ, ◌+◌, ◌≤◌, List, [], ◌∷◌, ◌++◌, Some, None, vec_items, vec_len, vec_capacity, Option, Vec}
+use Rattle.std.specs.Prelude.{ℕ, List, [], ◌∷◌, ◌++◌, Some, None, Option}
 use Rattle.box_rules.specs.Chest.{ticket_of}
 use Rattle.box_rules.specs.declared.answer.Answer.{Answer}
-use Rattle.box_rules.specs.declared.answer.Answer.TheVariants.{Asks, LogsIn, Receipt, Shown, Takes, Wrong}
+use Rattle.box_rules.specs.declared.answer.Answer.TheVariants.{Asks, LogsIn, Receipt, Shown, Takes}
 use Rattle.box_rules.specs.declared.line.Held.{Held}
 use Rattle.box_side.specs.Box.{Sent}
 use Rattle.locked.specs.Locked.{Bytes, asking_lock, login_lock, ours}
 use Rattle.parts.specs.declared.lock.Lock.{Lock}
 use Rattle.parts.specs.declared.word.Asking.{Asking}
 use Rattle.parts.specs.declared.word.Login.{Login}
-use Rattle.std.specs.declared.alloc.Global.{Global}
 use Rattle.wire.specs.Word.{lock_bytes, login, write_word}
 
 abbrev pub front_of : Option Bytes → Bytes
@@ -35,11 +33,6 @@ sent_with n front (Asks i q) = asks_with front q
 sent_with n front (Takes g q) = asks_with front q
 sent_with n front (Receipt p) = None
 sent_with n front (Shown c) = None
-sent_with n front (Wrong f) = None
-
-pub record Roomy (front : Bytes) (v : Vec ℕ Global) : Type 0 where
-  pub items : vec_items v ≡ front
-  pub room : vec_len v + 1087 ≤ vec_capacity v
 
 abbrev pub ticket_by : {T : Type 0} → Option ℕ → List (Held T) → Option T
 ticket_by None hs = None

@@ -1,5 +1,5 @@
 // A reader's box over bytes: its reader's lines and the words of the line in, words for the line out. What it does is
-// what the decisions of `box_rules` say; it frames, opens, locks and writes. Want of memory leaves a box as it was.
+// what the decisions of `box_rules` say; it frames, opens, locks and writes. Want of memory and what is wrong leave a box as it was.
 #![tactic(auto)]
 
 mod hear;
@@ -12,4 +12,4 @@ mod want;
 
 pub use reader_box::{NotMade, ReaderBox};
 pub use ticket::TicketBytes;
-pub use told::{Sent, Show, Told};
+pub use told::{NotDone, Sent, Show, Told};

@@ -1,17 +1,19 @@
 // Which of some keys opens a lock: the first that does decides.
 ghost use Rattle.box_side.specs.Box.{opens_first, under_of};
-ghost use Rattle.box_side.specs.Opened.{found_in, letter_in, opened_in, receipt_in};
+ghost use Rattle.box_side.specs.Opened.{Opens, found_in, opened_in, read_first};
 ghost use Rattle.locked.specs.Locked.{ours};
 ghost use Rattle.seal.specs.Kind.{number_of};
 ghost use Rattle.std.specs.Prelude.{◌≡◌, IfOk};
 
+use crate::told::NotDone;
 use box_rules::Under;
-use contents::{read_letter, read_receipt};
-use parts::{Fault, Key, Letter, Receipt};
+use contents::Inside;
+use parts::{Fault, Key};
 use seal::{Kind, inside, open_in_place};
 use std::alloc::{AllocError, Global};
 
-// A key that opened a lock, and its place among those that were tried.
+// A key that opened a lock, and its place among those that were tried, which tells the own key from the others.
+// The place stays, since what is promised of a letter names it.
 #[derive(Clone, Copy)]
 pub(crate) struct Found {
     pub(crate) place: usize,
@@ -25,28 +27,34 @@ pub(crate) struct Opened {
     pub(crate) word: Vec<u8>,
 }
 
-// A letter, and the key under which it opened.
+// What a lock has inside, and the key that opened it.
 #[derive(Clone, Copy)]
-pub(crate) struct OpenLetter {
-    pub(crate) under: Under,
-    pub(crate) letter: Letter,
+pub(crate) struct Unlocked<T> {
+    pub(crate) found: Found,
+    pub(crate) inside: T,
 }
 
-// A receipt, and the key under which it opened.
-#[derive(Clone, Copy)]
-pub(crate) struct OpenReceipt {
-    pub(crate) key: Key,
-    pub(crate) receipt: Receipt,
+impl Found {
+    // Under which key a letter opened: the own key is the first that is tried.
+    pub(crate) fn under(self) -> Under
+        ensures { result ≡ under_of self.place self.key }
+    {
+        if self.place == 0 {
+            Under::Own
+        } else {
+            Under::Session(self.key)
+        }
+    }
 }
 
-// Opens a lock where it stands with the first key that opens it, and says which that is.
+// Opens a lock where it stands with the first key that opens it, and says which that is. It is no `find_map`, since its
+// closure would change the word.
 fn open_first(kind: Kind, keys: &[Key], word: &mut [u8]) -> Option<Found>
     ensures { found_in result word.new ≡ opens_first ours (number_of kind) 0 keys.now word.old }
 {
-    for place in 0..keys.len() {
-        let key = keys[place];
+    for (place, key) in keys.iter().enumerate() {
         if open_in_place(kind, &key.0, word).is_ok() {
-            return Some(Found { place, key });
+            return Some(Found { place, key: *key });
         }
     }
     None
@@ -62,59 +70,22 @@ fn open_copy(
     ensures { IfOk result (λ o. opened_in o ≡ opens_first ours (number_of kind) 0 keys.now lock.now) }
 {
     let mut word = Vec::from_slice(heap, lock)?;
-    let Some(found) = open_first(kind, keys, word.as_mut_slice()) else {
-        return Ok(None);
-    };
-    Ok(Some(Opened { found, word }))
+    let found = open_first(kind, keys, word.as_mut_slice());
+    Ok(found.map(|found| Opened { found, word }))
 }
 
-// Under which key a letter opened: the own key is the first that is tried.
-fn under_of(found: Found) -> Under
-    ensures { result ≡ under_of found.place found.key }
-{
-    if found.place == 0 {
-        Under::Own
-    } else {
-        Under::Session(found.key)
-    }
-}
-
-// The letter in a lock, and the key under which it opened, or what is wrong with it.
-pub(crate) fn open_letter(
+// What a lock of its kind has inside, and the first key that opens it.
+pub(crate) fn open<T: Inside>(
     heap: Global,
     keys: &[Key],
     lock: &[u8],
-) -> Result<Result<OpenLetter, Fault>, AllocError>
-    ensures { IfOk result (λ x. x ≡ letter_in (opens_first ours 2 0 keys.now lock.now)) }
+) -> Result<Unlocked<T>, NotDone>
+    ensures { Opens (read_first T.read_in (opens_first ours (number_of T.KIND) 0 keys.now lock.now)) result }
 {
-    let Some(opened) = open_copy(heap, Kind::Letter, keys, lock)? else {
-        return Ok(Err(Fault::LockFails));
-    };
-    match read_letter(inside(opened.word.as_slice())) {
-        Ok(letter) => Ok(Ok(OpenLetter {
-            under: under_of(opened.found),
-            letter,
-        })),
-        Err(fault) => Ok(Err(fault)),
-    }
-}
-
-// The receipt in a lock, and the key under which it opened, or what is wrong with it.
-pub(crate) fn open_receipt(
-    heap: Global,
-    keys: &[Key],
-    lock: &[u8],
-) -> Result<Result<OpenReceipt, Fault>, AllocError>
-    ensures { IfOk result (λ x. x ≡ receipt_in (opens_first ours 5 0 keys.now lock.now)) }
-{
-    let Some(opened) = open_copy(heap, Kind::Receipt, keys, lock)? else {
-        return Ok(Err(Fault::LockFails));
-    };
-    match read_receipt(inside(opened.word.as_slice())) {
-        Ok(receipt) => Ok(Ok(OpenReceipt {
-            key: opened.found.key,
-            receipt,
-        })),
-        Err(fault) => Ok(Err(fault)),
-    }
+    let opened = open_copy(heap, T::KIND, keys, lock)?.ok_or(Fault::LockFails)?;
+    let inside = T::read(inside(opened.word.as_slice()))?;
+    Ok(Unlocked {
+        found: opened.found,
+        inside,
+    })
 }

@@ -16,7 +16,7 @@ pub struct ReaderBox<D> {
     pub drawn: D,
 }
 
-// Why there is no box, with the drawn bytes as they were.
+// Why there is no box, with the drawn bytes as they were: it is no enum alone, since the bytes must come back.
 #[derive(Drop)]
 pub struct NotMade<D> {
     pub why: NotStarted,
@@ -24,7 +24,7 @@ pub struct NotMade<D> {
 }
 
 impl<D: Drawn> ReaderBox<D> {
-    // Starts a box that holds nothing, with drawn bytes to use up.
+    // Starts a box that holds nothing, with drawn bytes to use up. The `match` stays, since both arms take the bytes.
     pub fn start(
         heap: Global,
         number: u16,
@@ -41,11 +41,10 @@ impl<D: Drawn> ReaderBox<D> {
     }
 
     // Tells it the tick.
-    pub fn tick(mut self, to: u64) -> (ReaderBox<D>, Ticked)
-        ensures answer { result.1 ≡ clock self.chest.now to }
-        ensures after { seen result.0.chest (D.left result.0.drawn) ≡ box_on_tick (seen self.chest (D.left self.drawn)) to }
+    pub fn tick(&mut self, to: u64) -> Ticked
+        ensures answer { result ≡ clock self.old.chest.now to }
+        ensures after { seen self.new.chest (D.left self.new.drawn) ≡ box_on_tick (seen self.old.chest (D.left self.old.drawn)) to }
     {
-        let ticked = self.chest.tick(to);
-        (self, ticked)
+        self.chest.tick(to)
     }
 }

@@ -1,125 +1,125 @@
 // The memory of a word before it is decided on, and the word that goes out with an answer.
-ghost use Rattle.std.specs.Prelude.{◌≡◌, ◌+◌, ◌≤◌, [], ◌∷◌, ◌++◌, length, IfOk, Some, None, vec_len, vec_capacity};
+ghost use Rattle.std.specs.Prelude.{◌≡◌, ℕ, ◌+◌, ◌≤◌, List, [], ◌++◌, IfOk, Some, None, vec_len, vec_capacity};
 ghost use Rattle.box_side.specs.Step.{sent_in, shown_of};
-ghost use Rattle.box_side.specs.Sent.{Roomy, front_of, login_bytes, sent_with};
-ghost use Rattle.contents.specs.Field.{bytes_of};
+ghost use Rattle.box_side.specs.Sent.{front_of, login_bytes, sent_with};
 ghost use Rattle.locked.specs.Locked.{asking_lock, ours};
 ghost use Rattle.wire.specs.Word.{lock_bytes};
 
+use crate::ticket::TicketIn;
 use crate::told::{Sent, Show, Told};
-use box_locks::{append_asking, append_login};
+use box_locks::{ASKING_MOST, append_asking, append_login};
 use box_rules::Answer;
 use parts::{Asking, Lock, Login};
 use std::alloc::{AllocError, Global};
+use std::marker::Model;
+use wire::WordKind;
 
-// The first byte of a login and of an asking.
-const LOGIN: u8 = 1;
-
-const ASKING: u8 = 3;
-
-// Room for what comes behind the ticket, or for a whole login.
-const ROOM: usize = 1087;
-
-// A word of which nothing is written yet.
-pub(crate) fn empty_word(heap: Global) -> Result<Vec<u8>, AllocError>
-    ensures { IfOk result (λ v. Roomy [] v) }
-{
-    Vec::with_capacity(heap, ROOM)
+// A word under way, with room for what comes behind the ticket, or for a whole login.
+#[derive(Drop)]
+pub(crate) struct Begun {
+    bytes: Vec<u8>,
 }
 
-// An asking's word of which the ticket is written.
-pub(crate) fn ticket_word(heap: Global, ticket: &[u8]) -> Result<Vec<u8>, AllocError>
-    requires { length ticket.now ≤ 65535 }
-    ensures { IfOk result (λ v. Roomy (front_of (Some ticket.now)) v) }
-{
-    let mut word = Vec::with_capacity(heap, 3 + ticket.len() + ROOM)?;
-    let [high, low] = (ticket.len() as u16).to_be_bytes();
-    word.extend_from_slice(&[ASKING, high, low])?;
-    word.extend_from_slice(ticket)?;
-    Ok(word)
+impl Model for Begun {
+    ghost Value = { List ℕ };
+
+    ghost view = { λ w. w.bytes.items };
+
+    ghost invariant = { λ w. vec_len w.bytes + 1087 ≤ vec_capacity w.bytes };
 }
 
-// A login's word of which all is written but the lock.
-fn login_front(mut word: Vec<u8>, number: u16) -> Vec<u8>
-    requires { vec_len word + 1087 ≤ vec_capacity word }
-    ensures items { result.items ≡ word.items ++ (1 ∷ bytes_of 2 number) }
-    ensures room { vec_len result + 59 ≤ vec_capacity result }
-{
-    let [high, low] = number.to_be_bytes();
-    let _ = word.extend_from_slice(&[LOGIN, high, low]);
-    word
+impl Begun {
+    // A word of which nothing is written yet.
+    pub(crate) fn empty(heap: Global) -> Result<Begun, AllocError>
+        ensures { IfOk result (λ w. w ≡ []) }
+    {
+        let bytes = Vec::with_capacity(heap, ASKING_MOST)?;
+        Ok(Begun { bytes })
+    }
+
+    // An asking's word of which the ticket is written.
+    pub(crate) fn asking(heap: Global, ticket: TicketIn<'_>) -> Result<Begun, AllocError>
+        ensures { IfOk result (λ w. w ≡ front_of (Some ticket.entry.bytes.now)) }
+    {
+        let ticket = ticket.bytes;
+        let mut bytes = Vec::with_capacity(heap, 3 + ticket.len() + ASKING_MOST)?;
+        let [high, low] = (ticket.len() as u16).to_be_bytes();
+        bytes.extend_from_slice(&[WordKind::Asking.number(), high, low])?;
+        bytes.extend_from_slice(ticket)?;
+        Ok(Begun { bytes })
+    }
+
+    // A login's word, in memory that was empty.
+    fn with_login(self, number: u16, login: &Lock<Login>) -> Vec<u8>
+        ensures { result.items ≡ self ++ login_bytes number login.now }
+    {
+        let mut word = self.bytes;
+        let [high, low] = number.to_be_bytes();
+        let _ = word.extend_from_slice(&[WordKind::Login.number(), high, low]);
+        let _ = append_login(&mut word, login);
+        word
+    }
+
+    // An asking's word, in memory that has the ticket.
+    fn with_asking(self, asking: &Lock<Asking>) -> Vec<u8>
+        ensures { result.items ≡ self ++ lock_bytes (asking_lock ours asking.now) }
+    {
+        let mut word = self.bytes;
+        let _ = append_asking(&mut word, asking);
+        word
+    }
 }
 
-// A login's word, in memory that was empty.
-fn login_word(word: Vec<u8>, number: u16, login: &Lock<Login>) -> Vec<u8>
-    requires { vec_len word + 1087 ≤ vec_capacity word }
-    ensures { result.items ≡ word.items ++ login_bytes number login.now }
-{
-    let mut whole = login_front(word, number);
-    let _ = append_login(&mut whole, login);
-    whole
-}
+impl From<Answer> for Show {
+    ghost from_gives = { λ answer show. show ≡ shown_of answer };
 
-// An asking's word, in memory that has the ticket.
-fn asking_word(mut word: Vec<u8>, asking: &Lock<Asking>) -> Vec<u8>
-    requires { vec_len word + 1087 ≤ vec_capacity word }
-    ensures { result.items ≡ word.items ++ lock_bytes (asking_lock ours asking.now) }
-{
-    let _ = append_asking(&mut word, asking);
-    word
-}
-
-// What is shown of an answer: all but its locks.
-fn show_of(answer: Answer) -> Show
-    ensures { result ≡ shown_of answer }
-{
-    match answer {
-        Answer::LogsIn(_) => Show::LogsIn,
-        Answer::Asks(id, _) => Show::Asks(id),
-        Answer::Takes(got, _) => Show::Takes(got),
-        Answer::Receipt(place) => Show::Receipt(place),
-        Answer::Shown(class) => Show::Refused(class),
-        Answer::Wrong(fault) => Show::Wrong(fault),
+    // What is shown of an answer: all but its locks.
+    fn from(answer: Answer) -> Show {
+        match answer {
+            Answer::LogsIn(_) => Show::LogsIn,
+            Answer::Asks(id, _) => Show::Asks(id),
+            Answer::Takes(got, _) => Show::Takes(got),
+            Answer::Receipt(place) => Show::Receipt(place),
+            Answer::Shown(class) => Show::Refused(class),
+        }
     }
 }
 
 // What goes out with an answer, in memory that was had before.
-fn send(word: Vec<u8>, number: u16, answer: Answer) -> Option<Sent>
-    requires { vec_len word + 1087 ≤ vec_capacity word }
-    ensures { sent_in result ≡ sent_with number word.items answer }
+fn send(word: Begun, number: u16, answer: Answer) -> Option<Sent>
+    ensures { sent_in result ≡ sent_with number word answer }
 {
     match answer {
         Answer::LogsIn(login) => Some(Sent {
             to: 0,
-            word: login_word(word, number, &login),
+            word: word.with_login(number, &login),
         }),
         Answer::Asks(_, asking) | Answer::Takes(_, asking) => Some(Sent {
             to: asking.inside.service,
-            word: asking_word(word, &asking),
+            word: word.with_asking(&asking),
         }),
-        _ => None,
+        Answer::Receipt(_) | Answer::Shown(_) => None,
     }
 }
 
 // What is told and sent with an answer.
-pub(crate) fn tell(word: Vec<u8>, number: u16, answer: Answer) -> Told
-    requires { vec_len word + 1087 ≤ vec_capacity word }
+pub(crate) fn tell(word: Begun, number: u16, answer: Answer) -> Told
     ensures shown { result.show ≡ shown_of answer }
-    ensures sent { sent_in result.sent ≡ sent_with number word.items answer }
+    ensures sent { sent_in result.sent ≡ sent_with number word answer }
 {
     Told {
-        show: show_of(answer),
+        show: Show::from(answer),
         sent: send(word, number, answer),
     }
 }
 
-// What is told with an answer that sends nothing.
+// What is told with an answer that sends nothing, for which no word is begun.
 pub(crate) fn tell_only(answer: Answer) -> Told
     ensures shown { result.show ≡ shown_of answer }
     ensures sent { sent_in result.sent ≡ None }
 {
     Told {
-        show: show_of(answer),
+        show: Show::from(answer),
         sent: None,
     }
 }

@@ -1,27 +1,31 @@
 // A line of the reader.
-ghost use Rattle.box_side.specs.Sent.{Roomy, front_of, ticket_by};
+ghost use Rattle.box_side.specs.Sent.{front_of, ticket_by};
 ghost use Rattle.box_side.specs.Step.{Wanted, bytes_of, seen};
-ghost use Rattle.std.specs.Prelude.{IfOk};
+ghost use Rattle.std.specs.Prelude.{◌≡◌, IfOk};
 ghost use Rattle.std.specs.Option.{option_map};
 
 use crate::reader_box::ReaderBox;
-use crate::tell::{empty_word, tell, ticket_word};
+use crate::tell::{Begun, tell};
 use crate::ticket::TicketBytes;
-use crate::told::Told;
+use crate::told::{NotDone, Told};
 use box_rules::Chest;
 use parts::{Drawn, What};
 use std::alloc::{AllocError, Global};
 
-// Memory for the word of a line by this ticket or by none, with a copy of the ticket in it.
-fn word_by(heap: Global, chest: &Chest<TicketBytes>, by: Option<u64>) -> Result<Vec<u8>, AllocError>
-    ensures { IfOk result (λ v. Roomy (front_of (option_map bytes_of (ticket_by by chest.entry.now.tickets.items))) v) }
+// The ticket that a line names, if it names one that is held.
+fn ticket_by(chest: &Chest<TicketBytes>, by: Option<u64>) -> Option<&TicketBytes>
+    ensures { option_map (λ r. r.now) result ≡ ticket_by by chest.entry.now.tickets }
 {
-    let Some(id) = by else {
-        return empty_word(heap);
-    };
-    match chest.ticket(id) {
-        None => empty_word(heap),
-        Some(ticket) => ticket_word(heap, ticket.bytes.as_slice()),
+    chest.ticket(by?)
+}
+
+// Memory for the word of a line by this ticket or by none, with a copy of the ticket in it.
+fn word_by(heap: Global, ticket: Option<&TicketBytes>) -> Result<Begun, AllocError>
+    ensures { IfOk result (λ w. w ≡ front_of (option_map bytes_of (option_map (λ r. r.now) ticket.entry))) }
+{
+    match ticket {
+        None => Begun::empty(heap),
+        Some(ticket) => Begun::asking(heap, ticket.lent()),
     }
 }
 
@@ -29,22 +33,17 @@ impl<D: Drawn> ReaderBox<D> {
     // A line for a service, by a ticket or by none. By none the box logs in, whatever tickets it holds.
     // Where there is no memory the box is as it was.
     pub fn want(
-        self,
+        &mut self,
         heap: Global,
         service: u16,
         by: Option<u64>,
         what: What,
-    ) -> (ReaderBox<D>, Result<Told, AllocError>)
-        ensures { Wanted (seen self.chest (D.left self.drawn)) service by what (seen result.0.chest (D.left result.0.drawn)) result.1 }
+    ) -> Result<Told, NotDone>
+        ensures { Wanted (seen self.old.chest (D.left self.old.drawn)) service by what (seen self.new.chest (D.left self.new.drawn)) result }
     {
-        match word_by(heap, &self.chest, by) {
-            Err(error) => (self, Err(error)),
-            Ok(word) => {
-                let ReaderBox { chest, mut drawn } = self;
-                let number = chest.number;
-                let (chest, answer) = chest.want(&mut drawn, service, by, what);
-                (ReaderBox { chest, drawn }, Ok(tell(word, number, answer)))
-            }
-        }
+        let word = word_by(heap, ticket_by(&self.chest, by))?;
+        let number = self.chest.number;
+        let answer = self.chest.want(&mut self.drawn, service, by, what)?;
+        Ok(tell(word, number, answer))
     }
 }

@@ -1,11 +1,11 @@
 -- Each call over bytes is an act on what was opened. Assumes nothing.
-use Rattle.std.proofs.Common.{◌≡◌, ℕ, suc, Bool, true, false, cond, eqb, ◌⊎◌, List, [], ◌∷◌, ◌++◌, length, Some, None, Ok, Option, Result, sym, refl, ap, ◌∙◌, subst, inl, inr, eqb-true}
+use Rattle.std.proofs.Common.{◌≡◌, ℕ, suc, Bool, true, false, cond, eqb, ◌⊎◌, List, [], ◌∷◌, ◌++◌, length, Some, None, Ok, Option, Result, sym, refl, ap, ◌∙◌, subst, inl, inr, eqb-true, Err}
 use Rattle.box_rules.specs.Chest.{Boxed}
 use Rattle.box_rules.specs.Keys.{letter_keys}
 use Rattle.box_rules.specs.Letter.{confirmed, letter_conditions, pending_for, shown_for, taken, taken_after, taken_from}
 use Rattle.box_rules.specs.Line.{line_conditions, line_of, pass_by, sent_after, unread, wanted, wanted_after}
 use Rattle.box_rules.specs.Table.{oldest}
-use Rattle.box_rules.specs.declared.answer.Answer as Told
+use Rattle.box_rules.specs.Line.{Told}
 use Rattle.box_rules.specs.declared.answer.Answer.TheVariants as told
 use Rattle.box_rules.specs.declared.line.Held.{Held}
 use Rattle.box_rules.specs.declared.line.Pass.{Pass}
@@ -28,8 +28,7 @@ use Rattle.byte_rows.specs.Term as term
 use Rattle.contents.specs.Inside.{read_ticket}
 use Rattle.house_rules.specs.Account.{own_key}
 use Rattle.house_rules.specs.House.{Home}
-use Rattle.house_rules.specs.declared.reply.Reply.{Reply}
-use Rattle.house_rules.specs.declared.reply.Reply.TheVariants.{Granted, Refused as NotGranted}
+use Rattle.house_rules.specs.Give.{Reply}
 use Rattle.house_side.specs.House as house
 use Rattle.locked.specs.Locked.{Bytes, Locks}
 use Rattle.parts.specs.Condition.{first_fault, unless}
@@ -46,8 +45,7 @@ use Rattle.rows.specs.System.{Act, Box, Can, House, New, Reader, Service, System
 use Rattle.rows.specs.System as acts
 use Rattle.rows.specs.Word.{answer_sent, asking_term, letter_term, reply_drawn, reply_sent, ticket_term, told_drawn, told_sent}
 use Rattle.service_rules.specs.Service.{View}
-use Rattle.service_rules.specs.declared.answer.Answer.{Answer}
-use Rattle.service_rules.specs.declared.answer.Answer.TheVariants.{Refused}
+use Rattle.service_rules.specs.Service.{Answer}
 use Rattle.service_side.specs.Service as service
 use Rattle.tickets.specs.Term.{Gets, Lock, Term, even}
 use Rattle.tickets.specs.Term
@@ -66,17 +64,17 @@ module _ (l : Locks) (c : Basis) (g : Whole) (apart : Apart c.own g.draws) (lock
       subst (λ (ds : List Bytes). name_of c.own ds d ≡ even (suc (length b.used))) (sym n.1)
       (draws-named c.own n.0 b.used d (subst (λ (ds : List Bytes). Apart c.own ds) n.1 apart))
 
-  told-new : (r : Told.Answer) → Next (told_drawn r) → New (C l c g) (N l c g) (seen b air) (told_drawn r)
-  told-new (told.LogsIn x) n = one-new _ n
-  told-new (told.Asks i x) n = one-new _ n
-  told-new (told.Takes d x) n = one-new _ n
-  told-new (told.Receipt i) n = tt
-  told-new (told.Shown k) n = tt
-  told-new (told.Wrong f) n = tt
+  told-new : (r : Told) → Next (told_drawn r) → New (C l c g) (N l c g) (seen b air) (told_drawn r)
+  told-new (Ok (told.LogsIn x)) n = one-new _ n
+  told-new (Ok (told.Asks i x)) n = one-new _ n
+  told-new (Ok (told.Takes d x)) n = one-new _ n
+  told-new (Ok (told.Receipt i)) n = tt
+  told-new (Ok (told.Shown k)) n = tt
+  told-new (Err f) n = tt
 
   reply-new : (r : Reply) → Next (reply_drawn r) → New (C l c g) (N l c g) (seen b air) (reply_drawn r)
-  reply-new (Granted d t x) n = one-new _ n
-  reply-new (NotGranted f) n = tt
+  reply-new (Ok y) n = one-new _ n
+  reply-new (Err f) n = tt
 
   alone-there : (a : ℕ) → Alone c a → acts.Alone (C l c g) (N l c g) a
   alone-there a h = record { there = h.there; alone = h.alone }
@@ -148,7 +146,7 @@ module _ (l : Locks) (c : Basis) (g : Whole) (apart : Apart c.own g.draws) (lock
             same = refl;
             known = gone _ _ f;
           }
-      go (house.wrong k) e f n = record { can = tt; air' = air; same = refl; known = gone (NotGranted k) b.home tt }
+      go (house.wrong k) e f n = record { can = tt; air' = air; same = refl; known = gone (Err k) b.home tt }
 
   -- a word at a service
   at-service : (v : ℕ) (w : Bytes) → HeardByService l c g b v w → FitsAnswer l c g (answered l c b v w)
@@ -174,14 +172,14 @@ module _ (l : Locks) (c : Basis) (g : Whole) (apart : Apart c.own g.draws) (lock
             can = tt;
             air' = air;
             same = ap (λ (x : ℕ → View). record { home = b.home; side = x; box = λ a. blind (b.box a); air = air; used = b.used; stolen = b.stolen }) (sym (at_same v b.side));
-            known = gone (Refused k) (b.side v) tt;
+            known = gone (Err k) (b.side v) tt;
           }
 
   -- what a box says, here and there
-  says_same : (a : ℕ) (r' r : Told.Answer) (y : Box) (x : Boxed Bytes) → r' ≡ r → y ≡ blind x
+  says_same : (a : ℕ) (r' r : Told) (y : Box) (x : Boxed Bytes) → r' ≡ r → y ≡ blind x
       → acts.with_sent (told_sent (name_in l c g) r') (told_drawn r') (acts.with_box a y (seen b air)) ≡ seen (box_says l c a x r b) (told_sent (name_in l c g) r ++ air)
   says_same a r' r y x e f =
-      ap (λ (z : Told.Answer). acts.with_sent (told_sent (name_in l c g) z) (told_drawn z) (acts.with_box a y (seen b air))) e
+      ap (λ (z : Told). acts.with_sent (told_sent (name_in l c g) z) (told_drawn z) (acts.with_box a y (seen b air))) e
       ∙ with-boxes (acts.with_sent (told_sent (name_in l c g) r) (told_drawn r) (seen b air)) (at-blind a x y b.box f)
 
   -- a line of a reader
@@ -192,7 +190,7 @@ module _ (l : Locks) (c : Basis) (g : Whole) (apart : Apart c.own g.draws) (lock
         can =
             record {
               reader = alone-there a h;
-              new = subst (λ (r : Told.Answer). New (C l c g) (N l c g) (seen b air) (told_drawn r)) (sym (wanted_by (λ _. tt {0}) (b.box a) v by w)) (told-new _ n);
+              new = subst (λ (r : Told). New (C l c g) (N l c g) (seen b air) (told_drawn r)) (sym (wanted_by (λ _. tt {0}) (b.box a) v by w)) (told-new _ n);
             };
         air' = told_sent (name_in l c g) (wanted (b.box a) v by w) ++ air;
         same = says_same a _ _ _ (wanted_after (b.box a) v by w) (wanted_by (λ _. tt {0}) (b.box a) v by w) (sym (wanted_after-by (λ _. tt {0}) (b.box a) v by w));
@@ -209,7 +207,7 @@ module _ (l : Locks) (c : Basis) (g : Whole) (apart : Apart c.own g.draws) (lock
           go false None (Some y) k = known.held a x k
 
   -- a box that hears and says nothing
-  silent : (a : ℕ) (r : Told.Answer) → box_says l c a (b.box a) r b ≡ bytes.with_box a (b.box a) b → Goes l c g b air (acts.hears (Reader a)) (box_says l c a (b.box a) r b)
+  silent : (a : ℕ) (r : Told) → box_says l c a (b.box a) r b ≡ bytes.with_box a (b.box a) b → Goes l c g b air (acts.hears (Reader a)) (box_says l c a (b.box a) r b)
   silent a r e =
       subst (λ (z : Bytewise). Goes l c g b air (acts.hears (Reader a)) z) (sym e)
       (record {
@@ -258,7 +256,7 @@ module _ (l : Locks) (c : Basis) (g : Whole) (apart : Apart c.own g.draws) (lock
                 record {
                   reader = alone-there a h.reader;
                   letter_heard = subst (λ (z : Under). Gets air (letter_term (name_in l c g) (under_key (C l c g) (N l c g) (blind (b.box a)) z) x)) (sym r.under) (under r.tried.place r.tried.key (opened-first l 2 (b.box a).key _ r.letter r.tried r.first) x two);
-                  new = subst (λ (z : Told.Answer). New (C l c g) (N l c g) (seen b air) (told_drawn z)) (sym (taken-by (λ _. tt {0}) (b.box a) u x)) (told-new _ n);
+                  new = subst (λ (z : Told). New (C l c g) (N l c g) (seen b air) (told_drawn z)) (sym (taken-by (λ _. tt {0}) (b.box a) u x)) (told-new _ n);
                 };
             air' = told_sent (name_in l c g) (taken (b.box a) u x) ++ air;
             same = says_same a _ _ _ (taken_after (b.box a) u x ticket) (taken-by (λ _. tt {0}) (b.box a) u x) (sym (taken_after-by (λ _. tt {0}) (b.box a) u x ticket));
@@ -273,8 +271,8 @@ module _ (l : Locks) (c : Basis) (g : Whole) (apart : Apart c.own g.draws) (lock
               by true i = subst (λ (z : Key). Gets air (letter_term (name_in l c g) z y)) (own (eqb-true p 0 i)) got
               by false i = got
       go (box.confirms k r) e f n = silent a (confirmed (b.box a).askings k r) (confirms (oldest (AtService k r.number) (b.box a).askings))
-      go (box.refuses k) e f n = silent a (told.Shown k) refl
-      go (box.wrong k) e f n = silent a (told.Wrong k) refl
+      go (box.refuses k) e f n = silent a (Ok (told.Shown k)) refl
+      go (box.wrong k) e f n = silent a (Err k) refl
 
   -- every call
   pub goes : (e : Call) → Meets l c g b e → FitsCall l c g b e → (later : List Bytes) → g.draws ≡ later ++ (step l c e b).used → Goes l c g b air (act_of l c b e) (step l c e b)

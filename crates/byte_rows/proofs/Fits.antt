@@ -5,7 +5,7 @@ use Rattle.box_rules.specs.Chest as chest
 use Rattle.box_rules.specs.Line.{wanted, wanted_after}
 use Rattle.box_rules.specs.Letter.{shown_for}
 use Rattle.box_rules.specs.Table.{oldest}
-use Rattle.box_rules.specs.declared.answer.Answer as Told
+use Rattle.box_rules.specs.Line.{Told}
 use Rattle.box_rules.specs.declared.answer.Answer.TheVariants as told
 use Rattle.box_rules.specs.declared.line.Held.{Held}
 use Rattle.box_rules.specs.declared.line.Pending.{Pending}
@@ -25,8 +25,7 @@ use Rattle.codec.specs.Law.{AskingFits, LetterFits, LoginFits, ReceiptFits, Tick
 use Rattle.contents.specs.Inside.{Asked, write_asking, write_letter, write_login, write_receipt, write_ticket}
 use Rattle.house_rules.specs.House.{Home}
 use Rattle.house_rules.specs.House as house-rules
-use Rattle.house_rules.specs.declared.reply.Reply.{Reply}
-use Rattle.house_rules.specs.declared.reply.Reply.TheVariants.{Granted, Refused as NotGranted}
+use Rattle.house_rules.specs.Give.{Reply}
 use Rattle.house_side.specs.House as house
 use Rattle.locked.specs.Locked.{Bytes, Locks, asked_of, asking_lock, asking_ok, digest_of, letter_lock, login_lock, receipt_lock, ticket_lock}
 use Rattle.parts.specs.Condition.{first_fault, unless}
@@ -43,8 +42,7 @@ use Rattle.rows.specs.Name.{Apart, own_of}
 use Rattle.rows.specs.System.{House, Reader, Service, at, restarted}
 use Rattle.rows.specs.Word.{asking_term, letter_term, login_term, receipt_term, ticket_term}
 use Rattle.service_rules.specs.Side.{on_tick, set_tick}
-use Rattle.service_rules.specs.declared.answer.Answer.{Answer}
-use Rattle.service_rules.specs.declared.answer.Answer.TheVariants.{Done, Refused}
+use Rattle.service_rules.specs.Service.{Answer}
 use Rattle.service_rules.specs.declared.side.Side.{Side}
 use Rattle.service_side.specs.Service as service
 use Rattle.std.proofs.lemmas.List.{length-append, take-take}
@@ -238,25 +236,25 @@ module _ (l : Locks) (c : Basis) where
   ranges g t (e ∷ es) s f h = let r = ranges g t es s f h.1 in range-step (run l c t es) e (good-call g (run l c t es) e h.0 r) r
 
   -- each lock was made with 16 drawn bytes
-  salted-told : (r : Told.Answer) → GoodTold r → (m : Made) → Memᴰ m (told_made r) → length m.drawn ≡ 16
-  salted-told (told.LogsIn x) h m k = ap (λ (z : Made). length z.drawn) (Memᴰ.eq_of_singleton k) ∙ h.1
-  salted-told (told.Asks i x) h m k = ap (λ (z : Made). length z.drawn) (Memᴰ.eq_of_singleton k) ∙ h.salt
-  salted-told (told.Takes d x) h m k = ap (λ (z : Made). length z.drawn) (Memᴰ.eq_of_singleton k) ∙ h.salt
-  salted-told (told.Receipt i) h m k = absurd (Memᴰ.not-nil k)
-  salted-told (told.Shown i) h m k = absurd (Memᴰ.not-nil k)
-  salted-told (told.Wrong f) h m k = absurd (Memᴰ.not-nil k)
+  salted-told : (r : Told) → GoodTold r → (m : Made) → Memᴰ m (told_made r) → length m.drawn ≡ 16
+  salted-told (Ok (told.LogsIn x)) h m k = ap (λ (z : Made). length z.drawn) (Memᴰ.eq_of_singleton k) ∙ h.1
+  salted-told (Ok (told.Asks i x)) h m k = ap (λ (z : Made). length z.drawn) (Memᴰ.eq_of_singleton k) ∙ h.salt
+  salted-told (Ok (told.Takes d x)) h m k = ap (λ (z : Made). length z.drawn) (Memᴰ.eq_of_singleton k) ∙ h.salt
+  salted-told (Ok (told.Receipt i)) h m k = absurd (Memᴰ.not-nil k)
+  salted-told (Ok (told.Shown i)) h m k = absurd (Memᴰ.not-nil k)
+  salted-told (Err f) h m k = absurd (Memᴰ.not-nil k)
 
   salted-reply : (r : Reply) → GoodReply r → (m : Made) → Memᴰ m (reply_made r) → length m.drawn ≡ 16
-  salted-reply (Granted d t x) h m k = go (Memᴰ.cases_cons k)
+  salted-reply (Ok y) h m k = go (Memᴰ.cases_cons k)
     where
-      go : (m ≡ record { kind = 1; key = t.key.0; drawn = t.salt.0; inside = write_ticket t.inside }) ⊎ Memᴰ m (record { kind = 2; key = x.key.0; drawn = x.salt.0; inside = write_letter x.inside } ∷ []) → length m.drawn ≡ 16
+      go : (m ≡ record { kind = 1; key = y.ticket.key.0; drawn = y.ticket.salt.0; inside = write_ticket y.ticket.inside }) ⊎ Memᴰ m (record { kind = 2; key = y.letter.key.0; drawn = y.letter.salt.0; inside = write_letter y.letter.inside } ∷ []) → length m.drawn ≡ 16
       go (inl e) = ap (λ (z : Made). length z.drawn) e ∙ h.2
       go (inr e) = ap (λ (z : Made). length z.drawn) (Memᴰ.eq_of_singleton e) ∙ h.3
-  salted-reply (NotGranted f) h m k = absurd (Memᴰ.not-nil k)
+  salted-reply (Err f) h m k = absurd (Memᴰ.not-nil k)
 
   salted-answer : (r : Answer) → GoodAnswer r → (m : Made) → Memᴰ m (answer_made r) → length m.drawn ≡ 16
-  salted-answer (Done d x) h m k = ap (λ (z : Made). length z.drawn) (Memᴰ.eq_of_singleton k) ∙ h.1
-  salted-answer (Refused f) h m k = absurd (Memᴰ.not-nil k)
+  salted-answer (Ok y) h m k = ap (λ (z : Made). length z.drawn) (Memᴰ.eq_of_singleton k) ∙ h.1
+  salted-answer (Err f) h m k = absurd (Memᴰ.not-nil k)
 
   salted-call : (b : Bytewise) (e : Call) → GoodCall b e → (m : Made) → Memᴰ m (made_by l c b e) → length m.drawn ≡ 16
   salted-call b (tells to) h m k = absurd (Memᴰ.not-nil k)
@@ -323,22 +321,22 @@ module _ (l : Locks) (c : Basis) where
           ∙ ap (λ (r : Result Receipt Fault). Term.Lock 5 (name_in l c g x.key.0) (content_term (name_in l c g) (read_or Content.receipt (write_receipt x.inside) r))) (receipt-codec.back x.inside f)
 
       fits-reply : (r : Reply) → GoodReply r → ((m : Made) → Memᴰ m (reply_made r) → Memᴰ m g.made) → FitsReply l c g r
-      fits-reply (Granted d t x) h m = (
-        word-codec.back (frame.ticket_and_letter (ticket_lock l t) (letter_lock l x))
-            (cond-both-true _ _ (lock-fits 1 t.key.0 t.salt.0 _ h.2 (long-ticket t.inside h.0)) (lock-fits 2 x.key.0 x.salt.0 _ h.3 (long-letter x.inside h.1)), tt),
-        ticket-stands t h.0 (m _ (Memᴰ.head refl)),
-        letter-stands x h.1 (m _ (Memᴰ.tail (Memᴰ.head refl))),
+      fits-reply (Ok y) h m = (
+        word-codec.back (frame.ticket_and_letter (ticket_lock l y.ticket) (letter_lock l y.letter))
+            (cond-both-true _ _ (lock-fits 1 y.ticket.key.0 y.ticket.salt.0 _ h.2 (long-ticket y.ticket.inside h.0)) (lock-fits 2 y.letter.key.0 y.letter.salt.0 _ h.3 (long-letter y.letter.inside h.1)), tt),
+        ticket-stands y.ticket h.0 (m _ (Memᴰ.head refl)),
+        letter-stands y.letter h.1 (m _ (Memᴰ.tail (Memᴰ.head refl))),
       )
-      fits-reply (NotGranted f) h m = tt
+      fits-reply (Err f) h m = tt
 
       fits-answer : (r : Answer) → GoodAnswer r → ((m : Made) → Memᴰ m (answer_made r) → Memᴰ m g.made) → FitsAnswer l c g r
-      fits-answer (Done d x) h m = (
-        word-codec.back (frame.receipt (receipt_lock l x)) (lock-fits 5 x.key.0 x.salt.0 _ h.1 (long-receipt x.inside h.0), tt),
-        receipt-stands x h.0 (m _ (Memᴰ.head refl)),
+      fits-answer (Ok y) h m = (
+        word-codec.back (frame.receipt (receipt_lock l y.receipt)) (lock-fits 5 y.receipt.key.0 y.receipt.salt.0 _ h.1 (long-receipt y.receipt.inside h.0), tt),
+        receipt-stands y.receipt h.0 (m _ (Memᴰ.head refl)),
       )
-      fits-answer (Refused f) h m = tt
+      fits-answer (Err f) h m = tt
 
-      fits_told : (a : ℕ) (x : Boxed Bytes) → BoxOk a x → a < 2 ^ 16 → (r : Told.Answer) → GoodTold r → ((m : Made) → Memᴰ m (told_made r) → Memᴰ m g.made) → FitsTold l c g x r
+      fits_told : (a : ℕ) (x : Boxed Bytes) → BoxOk a x → a < 2 ^ 16 → (r : Told) → GoodTold r → ((m : Made) → Memᴰ m (told_made r) → Memᴰ m g.made) → FitsTold l c g x r
       fits_told a x ok low r h m = go r h m
         where
           asks : (i : ℕ) (q : Lock Asking) → GoodAsking q → Memᴰ (asking_made q) g.made → FitsAsking l c g i x q
@@ -350,16 +348,16 @@ module _ (l : Locks) (c : Basis) where
               held : (t : Bytes) → (y : Held Bytes) × Memᴰ y x.tickets × (y.ticket ≡ t) → lock_fits t ≡ true
               held t p = subst (λ (z : Bytes). lock_fits z ≡ true) p.2 (ok.tickets p.0 p.1).1
 
-          go : (r : Told.Answer) → GoodTold r → ((m : Made) → Memᴰ m (told_made r) → Memᴰ m g.made) → FitsTold l c g x r
-          go (told.LogsIn y) h m = (
+          go : (r : Told) → GoodTold r → ((m : Made) → Memᴰ m (told_made r) → Memᴰ m g.made) → FitsTold l c g x r
+          go (Ok (told.LogsIn y)) h m = (
             word-codec.back (frame.login x.number (login_lock l y)) (lock-fits 4 y.key.0 y.salt.0 _ h.1 (long-login y.inside h.0), subst (λ (k : ℕ). k < 2 ^ 16) (sym ok.number) low),
             login-stands y h.0 (m _ (Memᴰ.head refl)),
           )
-          go (told.Asks i q) h m = asks i q h (m _ (Memᴰ.head refl))
-          go (told.Takes d q) h m = asks d.id q h (m _ (Memᴰ.head refl))
-          go (told.Receipt i) h m = tt
-          go (told.Shown i) h m = tt
-          go (told.Wrong f) h m = tt
+          go (Ok (told.Asks i q)) h m = asks i q h (m _ (Memᴰ.head refl))
+          go (Ok (told.Takes d q)) h m = asks d.id q h (m _ (Memᴰ.head refl))
+          go (Ok (told.Receipt i)) h m = tt
+          go (Ok (told.Shown i)) h m = tt
+          go (Err f) h m = tt
 
       fits-call : length c.own ≤ 2 ^ 16 → (b : Bytewise) (e : Call) → GoodCall b e → ((m : Made) → Memᴰ m (made_by l c b e) → Memᴰ m g.made) → FitsCall l c g b e
       fits-call n b (tells to) h m = tt

@@ -1,3 +1,4 @@
+mod FromEnd
 pub mod Air
 pub mod Reading
 pub mod Simulates

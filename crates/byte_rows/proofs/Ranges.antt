@@ -5,7 +5,7 @@ use Rattle.box_rules.specs.Letter.{letter_conditions, letter_judged, pending_for
 use Rattle.box_rules.specs.Letter as letters
 use Rattle.box_rules.specs.Line.{line_conditions, line_of, pass_by, sent_after, sent_by, unread, wanted, wanted_after}
 use Rattle.box_rules.specs.Table.{oldest}
-use Rattle.box_rules.specs.declared.answer.Answer as Told
+use Rattle.box_rules.specs.Line.{Told}
 use Rattle.box_rules.specs.declared.answer.Answer.TheVariants as told
 use Rattle.box_rules.specs.declared.line.Held.{Held}
 use Rattle.box_rules.specs.declared.line.Line.{Line}
@@ -18,13 +18,13 @@ use Rattle.codec.proofs.Numbers.{length_part}
 use Rattle.codec.proofs.Insides.{both}
 use Rattle.codec.specs.Law.{AskingFits, LetterFits, LoginFits, ReceiptFits, TicketFits}
 use Rattle.contents.specs.Inside.{Asked, begins, is_asking, is_inside, read_asking, read_login, what_length}
-use Rattle.house_rules.specs.Account.{unknown, is_absent, account_of}
+use Rattle.house_rules.specs.Account.{unknown, account_of}
+use Rattle.parts.specs.Account.{is_absent}
 use Rattle.house_rules.specs.Give.{giving}
 use Rattle.house_rules.specs.House.{Home, until_of}
 use Rattle.house_rules.specs.House as house-rules
 use Rattle.house_rules.specs.declared.give.Given.{Given}
-use Rattle.house_rules.specs.declared.reply.Reply.{Reply}
-use Rattle.house_rules.specs.declared.reply.Reply.TheVariants.{Granted, Refused as NotGranted}
+use Rattle.house_rules.specs.Give.{Reply}
 use Rattle.locked.specs.Locked.{Bytes, asked_of, asking_ok, words_in}
 use Rattle.locked.specs.Locked as locked
 use Rattle.parts.proofs.Conditions.{passed}
@@ -45,8 +45,7 @@ use Rattle.rows.specs.Name.{spell}
 use Rattle.rows.specs.Word.{what_term, words_of}
 use Rattle.service_rules.specs.Service.{View, nobody}
 use Rattle.service_rules.specs.Service as service-rules
-use Rattle.service_rules.specs.declared.answer.Answer.{Answer}
-use Rattle.service_rules.specs.declared.answer.Answer.TheVariants.{Done, Refused}
+use Rattle.service_rules.specs.Service.{Answer}
 use Rattle.std.proofs.lemmas.List.{length-take-le, take_at}
 use Rattle.std.proofs.lemmas.Bool.{eqb-true, ltb-false}
 use Rattle.std.specs.Str.{bytes_eq}
@@ -101,8 +100,8 @@ asking-number bs q e = go (read_asking bs) refl e
 
 -- what the house gives
 abbrev pub GoodReply : Reply → Type 0
-GoodReply (Granted d t x) = TicketFits t.inside × LetterFits x.inside × (length t.salt.0 ≡ 16) × (length x.salt.0 ≡ 16)
-GoodReply (NotGranted f) = Unit {0}
+GoodReply (Ok y) = TicketFits y.ticket.inside × LetterFits y.letter.inside × (length y.ticket.salt.0 ≡ 16) × (length y.letter.salt.0 ≡ 16)
+GoodReply (Err f) = Unit {0}
 
 giving-good : (h : Home) (v : Given) → 64 ≤ length h.left → v.service < 1024 → v.reader < 1024 → length v.number.0 ≡ 16 → h.side.now < 2 ^ 63 → h.life < 2 ^ 63
     → GoodReply (giving (until_of h) h.left v)
@@ -118,7 +117,7 @@ giving-good h v drawn s r n now life =
 pub login-good : (h : Home) (a : ℕ) (x : Login) → length x.number.0 ≡ 16 → h.side.now < 2 ^ 63 → h.life < 2 ^ 63 → GoodReply (house-rules.logged_in h a x)
 login-good h a x n now life = go (first_fault (house-rules.login_conditions h a x)) refl
   where
-    go : (o : Option Fault) → first_fault (house-rules.login_conditions h a x) ≡ o → GoodReply (unless o (giving (until_of h) h.left (house-rules.login_given h a x)) NotGranted)
+    go : (o : Option Fault) → first_fault (house-rules.login_conditions h a x) ≡ o → GoodReply (unless o (giving (until_of h) h.left (house-rules.login_given h a x)) Err)
     go (Some f) e = tt
     go None e =
         let p1 = passed _ _ e in
@@ -130,7 +129,7 @@ login-good h a x n now life = go (first_fault (house-rules.login_conditions h a 
 pub ask-good : (h : Home) (t : Ticket) (q : Asking) (d : ℕ) → length q.number.0 ≡ 16 → h.side.now < 2 ^ 63 → h.life < 2 ^ 63 → GoodReply (house-rules.answered h t q d)
 ask-good h t q d n now life = go (house-rules.readable q) (first_fault (house-rules.conditions h t q d)) refl
   where
-    go : (r : Bool) (o : Option Fault) → first_fault (house-rules.conditions h t q d) ≡ o → GoodReply (cond r (unless o (house-rules.granted h t q) NotGranted) (NotGranted BadInside))
+    go : (r : Bool) (o : Option Fault) → first_fault (house-rules.conditions h t q d) ≡ o → GoodReply (cond r (unless o (house-rules.granted h t q) Err) (Err BadInside))
     go false o e = tt
     go true (Some f) e = tt
     go true None e =
@@ -151,13 +150,13 @@ ask-good h t q d n now life = go (house-rules.readable q) (first_fault (house-ru
 
 -- what a service sends
 abbrev pub GoodAnswer : Answer → Type 0
-GoodAnswer (Done d x) = ReceiptFits x.inside × (length x.salt.0 ≡ 16)
-GoodAnswer (Refused f) = Unit {0}
+GoodAnswer (Ok y) = ReceiptFits y.receipt.inside × (length y.receipt.salt.0 ≡ 16)
+GoodAnswer (Err f) = Unit {0}
 
 pub service-good : (v : View) (t : Ticket) (q : Asking) (d : ℕ) → length q.number.0 ≡ 16 → GoodAnswer (service-rules.answered v t q d)
 service-good v t q d n = go (first_fault (service-rules.conditions v t q d)) refl
   where
-    go : (o : Option Fault) → first_fault (service-rules.conditions v t q d) ≡ o → GoodAnswer (unless o (Done (service-rules.deed_of t q) (service-rules.receipt_of v t q)) Refused)
+    go : (o : Option Fault) → first_fault (service-rules.conditions v t q d) ≡ o → GoodAnswer (unless o (service-rules.done (service-rules.deed_of t q) (service-rules.receipt_of v t q)) Err)
     go (Some f) e = tt
     go None e =
         let p1 = passed _ _ e in
@@ -189,13 +188,13 @@ pub record GoodAsking (q : Lock Asking) : Type 0 where
   pub salt : length q.salt.0 ≡ 16
   pub what : what_term (locked.asking_of (asked_of q.inside)) ≡ what_term q.inside
 
-abbrev pub GoodTold : Told.Answer → Type 0
-GoodTold (told.LogsIn x) = LoginFits x.inside × (length x.salt.0 ≡ 16)
-GoodTold (told.Asks i q) = GoodAsking q
-GoodTold (told.Takes d q) = GoodAsking q
-GoodTold (told.Receipt n) = Unit {0}
-GoodTold (told.Shown k) = Unit {0}
-GoodTold (told.Wrong f) = Unit {0}
+abbrev pub GoodTold : Told → Type 0
+GoodTold (Ok (told.LogsIn x)) = LoginFits x.inside × (length x.salt.0 ≡ 16)
+GoodTold (Ok (told.Asks i q)) = GoodAsking q
+GoodTold (Ok (told.Takes d q)) = GoodAsking q
+GoodTold (Ok (told.Receipt n)) = Unit {0}
+GoodTold (Ok (told.Shown k)) = Unit {0}
+GoodTold (Err f) = Unit {0}
 
 -- the service that an asking for the house names
 abbrev wanted_in : What → ℕ
@@ -228,7 +227,7 @@ pub wanted-good : (a : ℕ) (x : Boxed Bytes) → BoxOk a x → (v : ℕ) (by : 
 wanted-good a x ok v by w = go (unread x.lines v w) refl (first_fault (line_conditions x v by)) refl (pass_by by x.tickets) refl
   where
     go : (u : Bool) → unread x.lines v w ≡ u → (o : Option Fault) → first_fault (line_conditions x v by) ≡ o → (p : Option Pass) → pass_by by x.tickets ≡ p
-        → GoodTold (cond u (told.Wrong OutOfRange) (unless o (sent_by x p (line_of x v w)) told.Wrong)) × BoxOk a (cond u x (unless o (sent_after x p (line_of x v w)) (λ _. x)))
+        → GoodTold (cond u (Err OutOfRange) (unless o (sent_by x p (line_of x v w)) Err)) × BoxOk a (cond u x (unless o (sent_after x p (line_of x v w)) (λ _. x)))
     go true e o f p g = (tt, ok)
     go false e (Some k) f p g = (tt, ok)
     go false e None f p g =
@@ -280,7 +279,7 @@ pub taken-good : (a : ℕ) (x : Boxed Bytes) → BoxOk a x → (u : Under) (y : 
 taken-good a x ok u y ticket fit = go (first_fault (letter_conditions x u y)) refl (pending_for x u y) refl
   where
     go : (o : Option Fault) → first_fault (letter_conditions x u y) ≡ o → (p : Option Pending) → pending_for x u y ≡ p
-        → GoodTold (unless o (taken_by x y p) told.Wrong) × BoxOk a (unless o (taken_from x u y ticket p) (λ _. x))
+        → GoodTold (unless o (taken_by x y p) Err) × BoxOk a (unless o (taken_from x u y ticket p) (λ _. x))
     go (Some f) e p i = (tt, ok)
     go None e None i = (tt, ok)
     go None e (Some p) i =

@@ -3,7 +3,7 @@ use Rattle.std.proofs.Common.{◌≡◌, ℕ, suc, List, [], ◌∷◌, ◌++◌
 use Rattle.box_rules.specs.Letter.{shown_for}
 use Rattle.box_rules.specs.Line.{wanted}
 use Rattle.box_rules.specs.Table.{oldest}
-use Rattle.box_rules.specs.declared.answer.Answer as Told
+use Rattle.box_rules.specs.Line.{Told}
 use Rattle.box_rules.specs.declared.line.Pending.{Pending}
 use Rattle.box_rules.specs.declared.line.Sought.TheVariants.{AtService}
 use Rattle.box_side.proofs.Tickets.{taken-by, wanted_by}
@@ -138,7 +138,7 @@ module _ (l : Locks) (c : Basis) (g : Whole) where
     line_same (steals m) = refl
     line_same (opens m k w) = refl
     line_same (closes m w) = refl
-    line_same (wants a v by w) = ap (λ (r : Told.Answer). line_told r (record { place = p; reader = a; service = v; what = words_of w; at = (b.box a).now })) (wanted_by (λ _. tt {0}) (b.box a) v by w)
+    line_same (wants a v by w) = ap (λ (r : Told). line_told r (record { place = p; reader = a; service = v; what = words_of w; at = (b.box a).now })) (wanted_by (λ _. tt {0}) (b.box a) v by w)
     line_same (brings House w) = go (read_by_house l c b w)
       where
         go : (r : house.Read) → rows.line_by (C l c g) (N l c g) (act_at_house l c r) (seen b air) p ≡ []
@@ -222,7 +222,7 @@ module _ (l : Locks) (c : Basis) (g : Whole) where
     begun-same (steals m) = refl
     begun-same (opens m k w) = refl
     begun-same (closes m w) = refl
-    begun-same (wants a v by w) = ap (λ (r : Told.Answer). begun_told r p a (b.box a).now) (wanted_by (λ _. tt {0}) (b.box a) v by w)
+    begun-same (wants a v by w) = ap (λ (r : Told). begun_told r p a (b.box a).now) (wanted_by (λ _. tt {0}) (b.box a) v by w)
     begun-same (brings House w) = go (read_by_house l c b w)
       where
         go : (r : house.Read) → rows.begun_by (C l c g) (N l c g) (act_at_house l c r) (seen b air) p ≡ []
@@ -241,7 +241,7 @@ module _ (l : Locks) (c : Basis) (g : Whole) where
         confirms (Some x) = refl
 
         go : (r : box.Read) → rows.begun_by (C l c g) (N l c g) (act_at_box l c a r) (seen b air) p ≡ begun_told (box.answer_to (b.box a) r) p a (b.box a).now
-        go (box.brings t u x) = ap (λ (r : Told.Answer). begun_told r p a (b.box a).now) (taken-by (λ _. tt {0}) (b.box a) u x)
+        go (box.brings t u x) = ap (λ (r : Told). begun_told r p a (b.box a).now) (taken-by (λ _. tt {0}) (b.box a) u x)
         go (box.confirms k x) = confirms (oldest (AtService k x.number) (b.box a).askings)
         go (box.refuses k) = refl
         go (box.wrong f) = refl
@@ -269,7 +269,7 @@ module _ (l : Locks) (c : Basis) (g : Whole) where
     taken-same (brings (Reader a) w) = go (read_by_box l c b a w)
       where
         go : (r : box.Read) → rows.taken_by (C l c g) (N l c g) (act_at_box l c a r) (seen b air) p ≡ taken_read b p a r
-        go (box.brings t u x) = ap (λ (r : Told.Answer). taken_told r p a x b.stolen) (taken-by (λ _. tt {0}) (b.box a) u x)
+        go (box.brings t u x) = ap (λ (r : Told). taken_told r p a x b.stolen) (taken-by (λ _. tt {0}) (b.box a) u x)
         go (box.confirms k x) = refl
         go (box.refuses k) = refl
         go (box.wrong f) = refl

@@ -1,10 +1,11 @@
 -- Six calls upon any row that meets the premises, and whoever is ready is served. Assumes nothing.
 use Rattle.std.proofs.Common.{◌≡◌, ℕ, suc, ◌+◌, ◌-◌, ◌^◌, ◌<◌, ◌≤◌, Bool, true, false, cond, ◌&&◌, eqb, ltb, ◌⊎◌, List, [], ◌∷◌, ◌++◌, length, take, drop, replicate, Some, None, Ok, Err, Option, Result, sym, refl, ap, ◌∙◌, subst, inl, inr, arith, length-drop}
 use Rattle.box_rules.specs.Chest.{Boxed, asked, asking_of, ticket_of, two_bytes}
-use Rattle.box_rules.specs.Keys.{house_keys, letter_keys, stray_keys}
+use Rattle.box_rules.specs.Keys.{from_end, house_keys, is_house, letter_keys, stray_keys}
+use Rattle.byte_rows.proofs.FromEnd.{from_end-cons}
 use Rattle.box_rules.specs.Letter.{letter_conditions, pending_for, settled, stored, taken, taken_after, taken_by, taken_from}
 use Rattle.box_rules.specs.Line.{counted, line_conditions, logged_in, login_of, unread, wanted, wanted_after}
-use Rattle.box_rules.specs.declared.answer.Answer as Told
+use Rattle.box_rules.specs.Line.{Told}
 use Rattle.box_rules.specs.declared.answer.Answer.TheVariants as told
 use Rattle.box_rules.specs.declared.answer.Got.{Got}
 use Rattle.box_rules.specs.declared.line.Held.{Held}
@@ -30,11 +31,12 @@ use Rattle.byte_rows.specs.System as bytes
 use Rattle.codec.proofs.Insides.{asking-codec, cond-both-true, letter-codec, login-codec, ticket-codec}
 use Rattle.codec.proofs.Words.{word-codec}
 use Rattle.contents.specs.Inside.{read_asking, read_letter, read_login, read_ticket, write_asking, write_letter, write_login, write_ticket}
-use Rattle.house_rules.specs.Account.{account_of, is_absent, own_key, unknown}
+use Rattle.house_rules.specs.Account.{account_of, own_key, unknown}
+use Rattle.parts.specs.Account.{is_absent}
 use Rattle.house_rules.specs.Give.{giving}
 use Rattle.house_rules.specs.House.{Home, until_of}
 use Rattle.house_rules.specs.House as house-rules
-use Rattle.house_rules.specs.declared.reply.Reply.{Reply}
+use Rattle.house_rules.specs.Give.{Reply}
 use Rattle.house_side.specs.House as house
 use Rattle.locked.specs.Locked.{Bytes, Locks, Tried, asked_of, asking_in, asking_lock, asking_ok, digest_of, letter_lock, login_lock, opened_as, ticket_in, ticket_lock, what_in, words_in}
 use Rattle.locked.specs.Locked as locked
@@ -60,8 +62,7 @@ use Rattle.rows.specs.System.{House, Reader, Service, System, at}
 use Rattle.rows.specs.Word.{reply_drawn, words_of}
 use Rattle.service_rules.specs.Service.{View, nobody}
 use Rattle.service_rules.specs.Service as service-rules
-use Rattle.service_rules.specs.declared.answer.Answer.{Answer}
-use Rattle.service_rules.specs.declared.answer.Answer.TheVariants.{Done}
+use Rattle.service_rules.specs.Service.{Answer}
 use Rattle.service_side.specs.Service as service
 use Rattle.std.proofs.lemmas.List.{take_at}
 use Rattle.std.proofs.lemmas.Bool.{and_from, and_left, and_right, cond-true, eq-eqb, eqb-true, ltb-false}
@@ -88,12 +89,12 @@ not-even own ds x i d e = go (own_name own 0 x) x (subst (λ (o : Option ℕ). n
     go None (b ∷ y) f = let z : ◌≡◌ {A = ℕ} 0 1 = cc in omega arith
 
 -- an answer that is no refusal, and what is left then
-line-left : (b b' : Boxed Bytes) (x : Lock Login) (u : Bool) (o : Option Fault) → cond u (told.Wrong OutOfRange) (unless o (told.LogsIn x) told.Wrong) ≡ told.LogsIn x → cond u b (unless o b' (λ _. b)) ≡ b'
+line-left : (b b' : Boxed Bytes) (x : Lock Login) (u : Bool) (o : Option Fault) → cond u (Err OutOfRange) (unless o (Ok (told.LogsIn x)) Err) ≡ Ok (told.LogsIn x) → cond u b (unless o b' (λ _. b)) ≡ b'
 line-left b b' x true o e = absurd (let z : ◌≡◌ {A = ℕ} 0 1 = cc in omega arith)
 line-left b b' x false (Some f) e = absurd (let z : ◌≡◌ {A = ℕ} 0 1 = cc in omega arith)
 line-left b b' x false None e = refl
 
-letter-left : (b b' : Boxed Bytes) (r : Told.Answer) (d : Got) (q : Lock Asking) (o : Option Fault) → unless o r told.Wrong ≡ told.Takes d q → unless o b' (λ _. b) ≡ b'
+letter-left : (b b' : Boxed Bytes) (r : Told) (d : Got) (q : Lock Asking) (o : Option Fault) → unless o r Err ≡ Ok (told.Takes d q) → unless o b' (λ _. b) ≡ b'
 letter-left b b' r d q (Some f) e = absurd (let z : ◌≡◌ {A = ℕ} 0 1 = cc in omega arith)
 letter-left b b' r d q None e = refl
 
@@ -173,12 +174,12 @@ module _ (l : Locks) where
         ∙ ap (λ (z : Reply). bytes.with_sent (sent_word (house.sent_by l z)) (reply_drawn z) (reply_made z) (bytes.with_home (house.after_word l s.home r) s)) f
         ∙ ap (λ (z : Home). bytes.with_sent (sent_word (house.sent_by l a)) (reply_drawn a) (reply_made a) (bytes.with_home z s)) g
 
-    box-call : (s : Bytewise) (a : ℕ) (w : Bytes) (x : Boxed Bytes) (r : box.Read) (q : Told.Answer) (x' : Boxed Bytes) → s.box a ≡ x → box.read_at_box l x w ≡ r → box.answer_to x r ≡ q → box.after_word x r ≡ x'
+    box-call : (s : Bytewise) (a : ℕ) (w : Bytes) (x : Boxed Bytes) (r : box.Read) (q : Told) (x' : Boxed Bytes) → s.box a ≡ x → box.read_at_box l x w ≡ r → box.answer_to x r ≡ q → box.after_word x r ≡ x'
         → step l c (brings (Reader a) w) s ≡ box_says l c a x' q s
     box-call s a w x r q x' d e f g =
         ap (λ (z : Boxed Bytes). box_says l c a (box.after_word z (box.read_at_box l z w)) (box.answer_to z (box.read_at_box l z w)) s) d
         ∙ ap (λ (z : box.Read). box_says l c a (box.after_word x z) (box.answer_to x z) s) e
-        ∙ ap (λ (z : Told.Answer). box_says l c a (box.after_word x r) z s) f
+        ∙ ap (λ (z : Told). box_says l c a (box.after_word x r) z s) f
         ∙ ap (λ (z : Boxed Bytes). box_says l c a z q s) g
 
 module _ (l : Locks) (fair : Fair l) (op : Opens l) (c : Basis) (s : Bytewise) (air : List Term) (a v : ℕ) (w : What) (o : Steady (C l c (record { draws = s.used; made = s.made })) (N l c (record { draws = s.used; made = s.made })) (seen s air)) (rg : InRange s) (r : Ready l c s a v w) where
@@ -255,17 +256,17 @@ module _ (l : Locks) (fair : Fair l) (op : Opens l) (c : Basis) (s : Bytewise) (
   abbrev b₁ : Boxed Bytes
   b₁ = logged_in (counted b) line
 
-  wanted₁ : wanted b v None w ≡ told.LogsIn (login_of b)
+  wanted₁ : wanted b v None w ≡ Ok (told.LogsIn (login_of b))
   wanted₁ = sym (wanted_by (λ _. tt {0}) b v None w) ∙ line-answer (blind b) v w service-there r.words r.lines (let d = r.drawn in omega arith)
 
   after₁ : wanted_after b v None w ≡ b₁
   after₁ = line-left b b₁ (login_of b) (unread b.lines v w) (first_fault (line_conditions b v None)) wanted₁
 
   t₁ : Bytewise
-  t₁ = box_says l c a b₁ (told.LogsIn (login_of b)) s
+  t₁ = box_says l c a b₁ (Ok (told.LogsIn (login_of b))) s
 
-  good₁ : GoodTold (told.LogsIn (login_of b))
-  good₁ = subst (λ (z : Told.Answer). GoodTold z) wanted₁ (wanted-good a b (rg.box a) v None w).0
+  good₁ : GoodTold (Ok (told.LogsIn (login_of b)))
+  good₁ = subst (λ (z : Told). GoodTold z) wanted₁ (wanted-good a b (rg.box a) v None w).0
 
   ok₁ : BoxOk a b₁
   ok₁ = subst (λ (z : Boxed Bytes). BoxOk a z) after₁ (wanted-good a b (rg.box a) v None w).1
@@ -278,7 +279,7 @@ module _ (l : Locks) (fair : Fair l) (op : Opens l) (c : Basis) (s : Bytewise) (
 
   call₁ : step l c (wants a v None w) s ≡ t₁
   unfolding t₁
-  call₁ = ap (λ (z : Boxed Bytes). box_says l c a z (wanted b v None w) s) after₁ ∙ ap (λ (z : Told.Answer). box_says l c a b₁ z s) wanted₁
+  call₁ = ap (λ (z : Boxed Bytes). box_says l c a z (wanted b v None w) s) after₁ ∙ ap (λ (z : Told). box_says l c a b₁ z s) wanted₁
 
   -- 2: the login
   read₂ : house.read_at_house l h (six.login_word l s a v w) ≡ house.logs a (login_of b).inside
@@ -331,7 +332,7 @@ module _ (l : Locks) (fair : Fair l) (op : Opens l) (c : Basis) (s : Bytewise) (
   abbrev got₃ : Got
   got₃ = record { id = b.taken + 1; service = 0; until = until_of h }
 
-  taken₃ : taken b₁ OwnKey letter₁ ≡ told.Takes got₃ (six.house_asking l s a v w)
+  taken₃ : taken b₁ OwnKey letter₁ ≡ Ok (told.Takes got₃ (six.house_asking l s a v w))
   taken₃ = sym (taken-by (λ _. tt {0}) b₁ OwnKey letter₁) ∙ letter-answer (blind b₁) OwnKey letter₁ _ pending₃ drawn₂ (let d = r.tickets in omega arith)
 
   abbrev b₂ : Boxed Bytes
@@ -343,17 +344,17 @@ module _ (l : Locks) (fair : Fair l) (op : Opens l) (c : Basis) (s : Bytewise) (
       ∙ ap (λ (z : Option Pending). taken_from b₁ OwnKey letter₁ T₁ z) pending₃
 
   good₃ : GoodAsking (six.house_asking l s a v w)
-  good₃ = subst (λ (z : Told.Answer). GoodTold z) taken₃ (taken-good a b₁ ok₁ OwnKey letter₁ T₁ fit₁).0
+  good₃ = subst (λ (z : Told). GoodTold z) taken₃ (taken-good a b₁ ok₁ OwnKey letter₁ T₁ fit₁).0
 
   ok₂ : BoxOk a b₂
   ok₂ = subst (λ (z : Boxed Bytes). BoxOk a z) after₃ (taken-good a b₁ ok₁ OwnKey letter₁ T₁ fit₁).1
 
   t₃ : Bytewise
-  t₃ = box_says l c a b₂ (told.Takes got₃ (six.house_asking l s a v w)) t₂
+  t₃ = box_says l c a b₂ (Ok (told.Takes got₃ (six.house_asking l s a v w))) t₂
 
   call₃ : step l c (brings (Reader a) (six.grant_word l s a v w)) t₂ ≡ t₃
   unfolding t₁ t₂ t₃
-  call₃ = box-call l c t₂ a (six.grant_word l s a v w) b₁ (box.brings T₁ OwnKey letter₁) (told.Takes got₃ (six.house_asking l s a v w)) b₂ (at_here a b₁ s.box) read₃ taken₃ after₃
+  call₃ = box-call l c t₂ a (six.grant_word l s a v w) b₁ (box.brings T₁ OwnKey letter₁) (Ok (told.Takes got₃ (six.house_asking l s a v w))) b₂ (at_here a b₁ s.box) read₃ taken₃ after₃
 
   -- 4: the asking for the house
   abbrev digest₁ : ℕ
@@ -405,7 +406,10 @@ module _ (l : Locks) (fair : Fair l) (op : Opens l) (c : Basis) (s : Bytewise) (
 
   house-key-tried : Memᴰ k₁ (letter_keys b₂)
   house-key-tried =
-      Memᴰ.tail (Memᴰ.append_left (stray_keys b₂.tickets b₂.askings) (Memᴰ.append_right (house_keys (take 15 b.tickets)) (Memᴰ.head refl)))
+      let there : Memᴰ k₁ ((b₂.key ∷ (house_keys (take 15 b.tickets) ++ (k₁ ∷ []))) ++ stray_keys b₂.tickets b₂.askings) =
+      Memᴰ.tail (Memᴰ.append_left (stray_keys b₂.tickets b₂.askings) (Memᴰ.append_right (house_keys (take 15 b.tickets)) (Memᴰ.head refl))) in
+      let taken₁ : Held Bytes = record { pass = record { id = b₁.taken + 1; service = letter₁.service; key = letter₁.key; until = letter₁.until }; ticket = T₁ } in
+      subst (λ (ks : List Key). Memᴰ k₁ ((b₂.key ∷ ks) ++ stray_keys b₂.tickets b₂.askings)) (sym (from_end-cons is_house (λ h. h.pass.key) taken₁ (take 15 b.tickets))) there
 
   opened₅ : (p : ℕ) × (opens_first l 2 0 (letter_keys b₂) (letter_lock l (six.service_letter l s a v w)) ≡ Some (record { place = p; key = k₁; inside = write_letter letter₂ }))
   opened₅ =
@@ -456,10 +460,10 @@ module _ (l : Locks) (fair : Fair l) (op : Opens l) (c : Basis) (s : Bytewise) (
       asks_with : Bool → Lock Asking
       asks_with e = record { key = k₂; salt = (six.service_asking l s a v w).salt; inside = record { service = v; number = m₃; what = cond e (two_bytes v) w; tick = cond e b.now b.now } }
 
-  taken₅ : taken b₂ (Session k₁) letter₂ ≡ told.Takes got₅ (six.service_asking l s a v w)
+  taken₅ : taken b₂ (Session k₁) letter₂ ≡ Ok (told.Takes got₅ (six.service_asking l s a v w))
   taken₅ =
       sym (taken-by (λ _. tt {0}) b₂ (Session k₁) letter₂) ∙ letter-answer (blind b₂) (Session k₁) letter₂ _ pending₅ drawn₃ r.tickets
-      ∙ ap (λ (q : Lock Asking). told.Takes got₅ q) asking₅
+      ∙ ap (λ (q : Lock Asking). let r : Told = Ok (told.Takes got₅ q) in r) asking₅
 
   abbrev b₃ : Boxed Bytes
   b₃ = asked (stored (settled b₂ (Session k₁) letter₂) letter₂ T₂) k₂ v line
@@ -470,14 +474,14 @@ module _ (l : Locks) (fair : Fair l) (op : Opens l) (c : Basis) (s : Bytewise) (
       ∙ ap (λ (z : Option Pending). taken_from b₂ (Session k₁) letter₂ T₂ z) pending₅
 
   good₅ : GoodAsking (six.service_asking l s a v w)
-  good₅ = subst (λ (z : Told.Answer). GoodTold z) taken₅ (taken-good a b₂ ok₂ (Session k₁) letter₂ T₂ fit₂).0
+  good₅ = subst (λ (z : Told). GoodTold z) taken₅ (taken-good a b₂ ok₂ (Session k₁) letter₂ T₂ fit₂).0
 
   t₅ : Bytewise
-  t₅ = box_says l c a b₃ (told.Takes got₅ (six.service_asking l s a v w)) t₄
+  t₅ = box_says l c a b₃ (Ok (told.Takes got₅ (six.service_asking l s a v w))) t₄
 
   call₅ : step l c (brings (Reader a) (six.serve_word l s a v w)) t₄ ≡ t₅
   unfolding t₁ t₂ t₃ t₄ t₅
-  call₅ = box-call l c t₄ a (six.serve_word l s a v w) b₂ (box.brings T₂ (Session k₁) letter₂) (told.Takes got₅ (six.service_asking l s a v w)) b₃ (at_here a b₂ (at a b₁ s.box)) read₅ taken₅ after₅
+  call₅ = box-call l c t₄ a (six.serve_word l s a v w) b₂ (box.brings T₂ (Session k₁) letter₂) (Ok (told.Takes got₅ (six.service_asking l s a v w))) b₃ (at_here a b₂ (at a b₁ s.box)) read₅ taken₅ after₅
 
   -- 6: the asking to the service
   abbrev asked₆ : Asking
@@ -508,7 +512,7 @@ module _ (l : Locks) (fair : Fair l) (op : Opens l) (c : Basis) (s : Bytewise) (
       }
 
   abbrev done₆ : Answer
-  done₆ = Done (service-rules.deed_of (six.service_ticket l s a v w).inside asked₆) (service-rules.receipt_of (s.side v) (six.service_ticket l s a v w).inside asked₆)
+  done₆ = service-rules.done (service-rules.deed_of (six.service_ticket l s a v w).inside asked₆) (service-rules.receipt_of (s.side v) (six.service_ticket l s a v w).inside asked₆)
 
   answered₆ : answered l c t₅ v (six.ask_word l s a v w) ≡ done₆
   unfolding t₁ t₂ t₃ t₄ t₅
@@ -528,7 +532,7 @@ module _ (l : Locks) (fair : Fair l) (op : Opens l) (c : Basis) (s : Bytewise) (
 
   line-told : (p : ℕ) → line_told (wanted b v None w) (record { place = p; reader = a; service = v; what = words_of w; at = b.now }) ≡ six.wanted_line l s a v w p ∷ []
   line-told p =
-      ap (λ (x : Told.Answer). line_told x (record { place = p; reader = a; service = v; what = words_of w; at = b.now })) wanted₁
+      ap (λ (x : Told). line_told x (record { place = p; reader = a; service = v; what = words_of w; at = b.now })) wanted₁
       ∙ ap (λ (t : ℕ). line_at t) (o.boxes a).now_is
     where
       line_at : ℕ → List Wanted

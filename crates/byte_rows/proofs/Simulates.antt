@@ -1,8 +1,8 @@
 -- One call over bytes is one act on what was opened: the systems are the same, and what is sent can be worked out. Assumes nothing.
-use Rattle.std.proofs.Common.{◌≡◌, ℕ, zero, suc, ◌<◌, Bool, true, false, cond, eqb, ◌⊎◌, List, [], ◌∷◌, ◌++◌, map, length, take, Some, None, Ok, Option, Result, sym, refl, ap, ◌∙◌, subst, inl, inr, arith, eqb-true}
+use Rattle.std.proofs.Common.{◌≡◌, ℕ, zero, suc, ◌<◌, Bool, true, false, cond, eqb, ◌⊎◌, List, [], ◌∷◌, ◌++◌, map, length, take, Some, None, Ok, Option, Result, sym, refl, ap, ◌∙◌, subst, inl, inr, arith, eqb-true, Err}
 use Rattle.box_rules.specs.Chest.{Boxed, ticket_of}
 use Rattle.box_rules.specs.Line.{wanted, wanted_after}
-use Rattle.box_rules.specs.declared.answer.Answer as Told
+use Rattle.box_rules.specs.Line.{Told}
 use Rattle.box_rules.specs.declared.answer.Answer.TheVariants as told
 use Rattle.box_rules.specs.declared.line.Held.{Held}
 use Rattle.box_side.specs.Box as box
@@ -13,8 +13,7 @@ use Rattle.byte_rows.specs.Premise.{Meets}
 use Rattle.byte_rows.specs.Row.{names_of}
 use Rattle.byte_rows.specs.System.{Basis, Bytewise, Call, answered, box_says, box_word, brings, closes, crashes, device, hands, key_name, opens, read_by_box, replied, sent_word, setting_of, steals, step, tells, told_by, wants, with_box}
 use Rattle.byte_rows.specs.Term.{Whole, air_of, frame_term, framed_term, lock_term, word_term}
-use Rattle.house_rules.specs.declared.reply.Reply.{Reply}
-use Rattle.house_rules.specs.declared.reply.Reply.TheVariants.{Granted, Refused as NotGranted}
+use Rattle.house_rules.specs.Give.{Reply}
 use Rattle.house_side.specs.House as house
 use Rattle.locked.specs.Locked.{Bytes, Locks, asking_lock, letter_lock, login_lock, receipt_lock, refusal_word, ticket_lock}
 use Rattle.parts.specs.Fault.{class_of}
@@ -29,8 +28,7 @@ use Rattle.rows.specs.Setting.{Setting}
 use Rattle.rows.specs.System.{Act, Box, Can, House, New, Reader, Service, System, at}
 use Rattle.rows.specs.System as acts
 use Rattle.rows.specs.Word.{answer_sent, asking_term, letter_term, login_term, receipt_term, reply_sent, ticket_term, told_sent}
-use Rattle.service_rules.specs.declared.answer.Answer.{Answer}
-use Rattle.service_rules.specs.declared.answer.Answer.TheVariants.{Done, Refused}
+use Rattle.service_rules.specs.Service.{Answer}
 use Rattle.service_side.specs.Service as service
 use Rattle.std.specs.Option.{option_map}
 use Rattle.tickets.specs.Term.{Gets, Own, Term, even}
@@ -113,32 +111,32 @@ module _ (l : Locks) (c : Basis) (g : Whole) where
 
   -- the words that go out frame as they were written, and the locks in them stand for what was locked
   abbrev pub FitsReply : Reply → Type 0
-  FitsReply (Granted d t x) =
-      (framed (write_word (frame.ticket_and_letter (ticket_lock l t) (letter_lock l x))) ≡ Ok (frame.ticket_and_letter (ticket_lock l t) (letter_lock l x)))
-      × (lock_term l c g (ticket_lock l t) ≡ ticket_term N.name t.key t.inside)
-      × (lock_term l c g (letter_lock l x) ≡ letter_term N.name x.key x.inside)
-  FitsReply (NotGranted f) = Unit {0}
+  FitsReply (Ok y) =
+      (framed (write_word (frame.ticket_and_letter (ticket_lock l y.ticket) (letter_lock l y.letter))) ≡ Ok (frame.ticket_and_letter (ticket_lock l y.ticket) (letter_lock l y.letter)))
+      × (lock_term l c g (ticket_lock l y.ticket) ≡ ticket_term N.name y.ticket.key y.ticket.inside)
+      × (lock_term l c g (letter_lock l y.letter) ≡ letter_term N.name y.letter.key y.letter.inside)
+  FitsReply (Err f) = Unit {0}
 
   abbrev pub FitsAnswer : Answer → Type 0
-  FitsAnswer (Done d x) =
-      (framed (write_word (frame.receipt (receipt_lock l x))) ≡ Ok (frame.receipt (receipt_lock l x)))
-      × (lock_term l c g (receipt_lock l x) ≡ receipt_term N.name x.key x.inside)
-  FitsAnswer (Refused f) = Unit {0}
+  FitsAnswer (Ok y) =
+      (framed (write_word (frame.receipt (receipt_lock l y.receipt))) ≡ Ok (frame.receipt (receipt_lock l y.receipt)))
+      × (lock_term l c g (receipt_lock l y.receipt) ≡ receipt_term N.name y.receipt.key y.receipt.inside)
+  FitsAnswer (Err f) = Unit {0}
 
   abbrev pub FitsAsking : ℕ → Boxed Bytes → Lock Asking → Type 0
   FitsAsking i b q =
       ((t : Bytes) → ticket_of i b.tickets ≡ Some t → framed (write_word (frame.asking t (asking_lock l q))) ≡ Ok (frame.asking t (asking_lock l q)))
       × (lock_term l c g (asking_lock l q) ≡ asking_term N.name q.key q.inside)
 
-  abbrev pub FitsTold : Boxed Bytes → Told.Answer → Type 0
-  FitsTold b (told.LogsIn x) =
+  abbrev pub FitsTold : Boxed Bytes → Told → Type 0
+  FitsTold b (Ok (told.LogsIn x)) =
       (framed (write_word (frame.login b.number (login_lock l x))) ≡ Ok (frame.login b.number (login_lock l x)))
       × (lock_term l c g (login_lock l x) ≡ login_term N.name x.key x.inside)
-  FitsTold b (told.Asks i q) = FitsAsking i b q
-  FitsTold b (told.Takes d q) = FitsAsking d.id b q
-  FitsTold b (told.Receipt n) = Unit {0}
-  FitsTold b (told.Shown k) = Unit {0}
-  FitsTold b (told.Wrong f) = Unit {0}
+  FitsTold b (Ok (told.Asks i q)) = FitsAsking i b q
+  FitsTold b (Ok (told.Takes d q)) = FitsAsking d.id b q
+  FitsTold b (Ok (told.Receipt n)) = Unit {0}
+  FitsTold b (Ok (told.Shown k)) = Unit {0}
+  FitsTold b (Err f) = Unit {0}
 
   -- of one call
   abbrev pub FitsCall : Bytewise → Call → Type 0
@@ -207,7 +205,7 @@ module _ (l : Locks) (c : Basis) (g : Whole) where
 
   module _ (b : Bytewise) (air : List Term) (known : Known b air) where
     -- a box that goes on and sends what it answers
-    pub says : (a : ℕ) (b' : Boxed Bytes) (r : Told.Answer) → FitsTold b' r
+    pub says : (a : ℕ) (b' : Boxed Bytes) (r : Told) → FitsTold b' r
         → ((h : Held Bytes) → Memᴰ h b'.tickets → Gets air (lock_term l c g h.ticket))
         → Known (box_says l c a b' r b) (told_sent N.name r ++ air)
     says a b' r fit held =
@@ -232,30 +230,30 @@ module _ (l : Locks) (c : Basis) (g : Whole) where
             let x = ticket-held i b'.tickets t e in
             subst (λ (z : Bytes). Gets air (lock_term l c g z)) x.2 (held x.0 x.1)
 
-        go : (r : Told.Answer) → FitsTold b' r → (w : Bytes) → Memᴰ w (box_word (box.sent_by l b' r)) → Gets (told_sent N.name r ++ air) (word_term l c g w)
-        go (told.LogsIn x) f w k =
+        go : (r : Told) → FitsTold b' r → (w : Bytes) → Memᴰ w (box_word (box.sent_by l b' r)) → Gets (told_sent N.name r ++ air) (word_term l c g w)
+        go (Ok (told.LogsIn x)) f w k =
             subst (λ (z : Bytes). Gets (login_term N.name x.key x.inside ∷ air) (word_term l c g z)) (sym (Memᴰ.eq_of_singleton k))
             (word-gets (frame.login b'.number (login_lock l x)) f.0 (Term.pair (Term.num _) (Term.has (Memᴰ.head f.1))))
-        go (told.Asks i q) f w k = asks q (ticket_of i b'.tickets) f.0 (of-id i) f.1 w k
-        go (told.Takes d q) f w k = asks q (ticket_of d.id b'.tickets) f.0 (of-id d.id) f.1 w k
-        go (told.Receipt n) f w k = absurd (Memᴰ.not-nil k)
-        go (told.Shown n) f w k = absurd (Memᴰ.not-nil k)
-        go (told.Wrong n) f w k = absurd (Memᴰ.not-nil k)
+        go (Ok (told.Asks i q)) f w k = asks q (ticket_of i b'.tickets) f.0 (of-id i) f.1 w k
+        go (Ok (told.Takes d q)) f w k = asks q (ticket_of d.id b'.tickets) f.0 (of-id d.id) f.1 w k
+        go (Ok (told.Receipt n)) f w k = absurd (Memᴰ.not-nil k)
+        go (Ok (told.Shown n)) f w k = absurd (Memᴰ.not-nil k)
+        go (Err n) f w k = absurd (Memᴰ.not-nil k)
 
     -- what the house sends
     pub replies : (r : Reply) → FitsReply r → (w : Bytes) → Memᴰ w (sent_word (house.sent_by l r)) → Gets (reply_sent N.name r ++ air) (word_term l c g w)
-    replies (Granted d t x) f w k =
-        subst (λ (z : Bytes). Gets (ticket_term N.name t.key t.inside ∷ letter_term N.name x.key x.inside ∷ air) (word_term l c g z)) (sym (Memᴰ.eq_of_singleton k))
-        (word-gets (frame.ticket_and_letter (ticket_lock l t) (letter_lock l x)) f.0
+    replies (Ok y) f w k =
+        subst (λ (z : Bytes). Gets (ticket_term N.name y.ticket.key y.ticket.inside ∷ letter_term N.name y.letter.key y.letter.inside ∷ air) (word_term l c g z)) (sym (Memᴰ.eq_of_singleton k))
+        (word-gets (frame.ticket_and_letter (ticket_lock l y.ticket) (letter_lock l y.letter)) f.0
         (Term.pair (Term.has (Memᴰ.head f.1)) (Term.has (Memᴰ.tail (Memᴰ.head f.2)))))
-    replies (NotGranted e) f w k = refusal-gets e w k
+    replies (Err e) f w k = refusal-gets e w k
 
     -- what a service sends
     pub answers : (r : Answer) → FitsAnswer r → (w : Bytes) → Memᴰ w (sent_word (service.sent_by l r)) → Gets (answer_sent N.name r ++ air) (word_term l c g w)
-    answers (Done d x) f w k =
-        subst (λ (z : Bytes). Gets (receipt_term N.name x.key x.inside ∷ air) (word_term l c g z)) (sym (Memᴰ.eq_of_singleton k))
-        (word-gets (frame.receipt (receipt_lock l x)) f.0 (Term.has (Memᴰ.head f.1)))
-    answers (Refused e) f w k = refusal-gets e w k
+    answers (Ok y) f w k =
+        subst (λ (z : Bytes). Gets (receipt_term N.name y.receipt.key y.receipt.inside ∷ air) (word_term l c g z)) (sym (Memᴰ.eq_of_singleton k))
+        (word-gets (frame.receipt (receipt_lock l y.receipt)) f.0 (Term.has (Memᴰ.head f.1)))
+    answers (Err e) f w k = refusal-gets e w k
 
     -- nothing but the house's, or a side's, own state is changed
     pub stays : (b' : Bytewise) → b'.words ≡ b.words → b'.stolen ≡ b.stolen → b'.box ≡ b.box → Known b' air

@@ -7,7 +7,7 @@
 -- w1 .. w5         the words of the six calls; w6: the outsiders' login
 -- happens          the row of calls
 -- CanHappen        it meets every premise, and tells just that line, that deed and those keys
-use Rattle.std.specs.Prelude.{◌≡◌, ℕ, ◌+◌, ◌-◌, ◌*◌, true, cond, List, [], ◌∷◌, ◌++◌, length, take, replicate, Some, None, Option, slice_index}
+use Rattle.std.specs.Prelude.{◌≡◌, ℕ, ◌+◌, ◌-◌, ◌*◌, true, cond, List, [], ◌∷◌, ◌++◌, length, take, replicate, Some, None, Option, slice_index, Err}
 use Rattle.byte_rows.specs.Premise.{Fair, Row}
 use Rattle.byte_rows.specs.Row.{deeds, keys, lines}
 use Rattle.byte_rows.specs.Served.{Opens, Ready}
@@ -22,7 +22,6 @@ use Rattle.parts.specs.declared.word.Number.{Number}
 use Rattle.parts.specs.declared.word.What.{What}
 use Rattle.rows.specs.Row.{Deed, Given, Wanted}
 use Rattle.rows.specs.System.{House, Reader, Service}
-use Rattle.service_rules.specs.declared.answer.Answer.TheVariants.{Refused}
 use Rattle.std.specs.Str.{bytes_eq}
 use Rattle.wire.specs.Word.{asking, login, ticket_and_letter, write_word}
 
@@ -145,7 +144,7 @@ pub record CanHappen : Type 0 where
   pub deed : deeds plain basis 10 happens ≡ done ∷ []
   pub line : lines plain basis 10 happens ≡ wanted ∷ []
   pub gives : keys plain basis 10 happens ≡ given
-  pub again : answered plain basis (run plain basis 10 served) 2 w5 ≡ Refused DoneBefore
+  pub again : answered plain basis (run plain basis 10 served) 2 w5 ≡ Err DoneBefore
   pub is-closed : closed (run plain basis 10 happens).home.accounts 1 ≡ true
   pub stolen : (run plain basis 10 happens).stolen ≡ 3 ∷ []
   -- and before the line the reader was ready, so that what Served rests on can be met too

@@ -6,18 +6,17 @@
 -- Call          what happens: a reader's line, a word of whatever bytes brought to a side, a tick, an account, a theft, ..
 -- step          what a call leaves
 -- key_name      the name of the own key of a number, one for all who have it by a slip
-use Rattle.std.specs.Prelude.{ℕ, Bool, true, false, List, [], ◌∷◌, ◌++◌, replicate, Some, None, Option}
+use Rattle.std.specs.Prelude.{ℕ, Bool, true, false, List, [], ◌∷◌, ◌++◌, replicate, Some, None, Option, Err, Ok}
 use Rattle.box_rules.specs.Chest.{Boxed, box_on_tick, fresh}
 use Rattle.box_rules.specs.Line.{wanted, wanted_after}
-use Rattle.box_rules.specs.declared.answer.Answer as Told
+use Rattle.box_rules.specs.Line.{Told}
 use Rattle.box_rules.specs.declared.answer.Answer.TheVariants as told
 use Rattle.box_side.specs.Box as box
 use Rattle.contents.specs.Inside.{write_asking, write_letter, write_login, write_receipt, write_ticket}
-use Rattle.held.specs.declared.memory.Cut.{Cut}
+use Rattle.held.specs.declared.cut.Cut.{Cut}
 use Rattle.house_rules.specs.Change.{opened_after, shut_after}
 use Rattle.house_rules.specs.House.{Home}
-use Rattle.house_rules.specs.declared.reply.Reply.{Reply}
-use Rattle.house_rules.specs.declared.reply.Reply.TheVariants.{Granted, Refused as NotGranted}
+use Rattle.house_rules.specs.Give.{Reply}
 use Rattle.house_side.specs.House as house
 use Rattle.locked.specs.Locked.{Bytes, Locks, asked_of, digest_of}
 use Rattle.parts.specs.declared.account.Account.TheVariants.{Absent}
@@ -31,8 +30,7 @@ use Rattle.rows.specs.System.{House, Reader, Service, Who, at, crashed_home, cra
 use Rattle.rows.specs.Word.{reply_drawn, told_drawn}
 use Rattle.service_rules.specs.Service.{View, view}
 use Rattle.service_rules.specs.Side.{on_tick}
-use Rattle.service_rules.specs.declared.answer.Answer.{Answer}
-use Rattle.service_rules.specs.declared.answer.Answer.TheVariants.{Done, Refused}
+use Rattle.service_rules.specs.Service.{Answer}
 use Rattle.service_side.specs.Service as service
 
 -- life: for how many ticks a ticket is good; lag: for how many an asking is; own: the own keys, by number, the house's first
@@ -87,30 +85,30 @@ pub data Call : Type 0 where
   -- a device writes from now on, or does not
   device : (who : Who) (writes : Bool) → Call
   -- somebody crashes and starts again, and its last write was cut so
-  crashes : (who : Who) (cut : Cut) → Call
+  crashes : (who : Who) (cut : Cut ℕ) → Call
 
 -- the locks that are made with an answer, the last made first
 abbrev pub reply_made : Reply → List Made
-reply_made (Granted g t x) =
-    record { kind = 1; key = t.key.0; drawn = t.salt.0; inside = write_ticket t.inside }
-    ∷ record { kind = 2; key = x.key.0; drawn = x.salt.0; inside = write_letter x.inside }
+reply_made (Ok y) =
+    record { kind = 1; key = y.ticket.key.0; drawn = y.ticket.salt.0; inside = write_ticket y.ticket.inside }
+    ∷ record { kind = 2; key = y.letter.key.0; drawn = y.letter.salt.0; inside = write_letter y.letter.inside }
     ∷ []
-reply_made (NotGranted f) = []
+reply_made (Err f) = []
 
 abbrev pub answer_made : Answer → List Made
-answer_made (Done d x) = record { kind = 5; key = x.key.0; drawn = x.salt.0; inside = write_receipt x.inside } ∷ []
-answer_made (Refused f) = []
+answer_made (Ok y) = record { kind = 5; key = y.receipt.key.0; drawn = y.receipt.salt.0; inside = write_receipt y.receipt.inside } ∷ []
+answer_made (Err f) = []
 
 abbrev pub asking_made : Lock Asking → Made
 asking_made x = record { kind = 3; key = x.key.0; drawn = x.salt.0; inside = write_asking (asked_of x.inside) }
 
-abbrev pub told_made : Told.Answer → List Made
-told_made (told.LogsIn x) = record { kind = 4; key = x.key.0; drawn = x.salt.0; inside = write_login x.inside } ∷ []
-told_made (told.Asks i x) = asking_made x ∷ []
-told_made (told.Takes g x) = asking_made x ∷ []
-told_made (told.Receipt i) = []
-told_made (told.Shown k) = []
-told_made (told.Wrong f) = []
+abbrev pub told_made : Told → List Made
+told_made (Ok (told.LogsIn x)) = record { kind = 4; key = x.key.0; drawn = x.salt.0; inside = write_login x.inside } ∷ []
+told_made (Ok (told.Asks i x)) = asking_made x ∷ []
+told_made (Ok (told.Takes g x)) = asking_made x ∷ []
+told_made (Ok (told.Receipt i)) = []
+told_made (Ok (told.Shown k)) = []
+told_made (Err f) = []
 
 -- the word that goes out, if one does
 abbrev pub sent_word : Option Bytes → List Bytes
@@ -156,11 +154,11 @@ module _ (l : Locks) (c : Basis) where
   abbrev pub answered : Bytewise → ℕ → Bytes → Answer
   answered s v w = service.answer_to l (s.side v) (read_by_service s v w)
 
-  abbrev pub told_by : Bytewise → ℕ → Bytes → Told.Answer
+  abbrev pub told_by : Bytewise → ℕ → Bytes → Told
   told_by s a w = box.answer_to (s.box a) (read_by_box s a w)
 
   -- a box that answered so goes on, sends and draws
-  abbrev pub box_says : ℕ → Boxed Bytes → Told.Answer → Bytewise → Bytewise
+  abbrev pub box_says : ℕ → Boxed Bytes → Told → Bytewise → Bytewise
   box_says a b r s = with_sent (box_word (box.sent_by l b r)) (told_drawn r) (told_made r) (with_box a b s)
 
   -- what a call leaves; what is refused or can't be read leaves all as it was, but for the refusal that is sent

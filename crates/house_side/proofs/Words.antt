@@ -1,13 +1,12 @@
 -- A word that was framed, and one that was read or can't be. Assumes nothing.
 use Rattle.std.proofs.Common.{◌≡◌, ℕ, Ok, Err, Result, sym, ap, ◌∙◌, subst}
 use Rattle.house_rules.specs.House.{Decides, Home, after, answered, logged_in}
-use Rattle.house_rules.specs.declared.reply.Reply.{Reply}
-use Rattle.house_side.specs.Hear.{HearsWord, ReadAs, Tells, TellsOf, login_event}
+use Rattle.house_rules.specs.Give.{Reply}
+use Rattle.house_side.specs.Hear.{Heard, HearsWord, ReadAs, Tells, TellsOf, login_event}
 use Rattle.house_side.specs.House.{Read, after_word, logs, read_at_house, read_frame, wrong}
-use Rattle.house_side.specs.declared.heard.Heard.{Heard}
 use Rattle.house_side.specs.declared.reading.Reading.{Reading}
 use Rattle.locked.specs.Locked.{Bytes, Locks}
-use Rattle.locked.specs.declared.open.Unopened.{Unopened}
+use Rattle.locked.specs.declared.unopened.Unopened.{Unopened}
 use Rattle.parts.specs.declared.fault.Fault.{Fault}
 use Rattle.parts.specs.declared.word.Asking.{Asking}
 use Rattle.parts.specs.declared.word.Login.{Login}

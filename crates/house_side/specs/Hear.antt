@@ -2,7 +2,6 @@
 --
 -- ReadAs x r        what the code read, r, is what the word is, x; or there was no memory
 -- event_of x a      what stands in the book of an answer a to what was read: a login, a grant or the fault, and no key
--- word_of s         the bytes of what is sent
 -- Tells l e a h     h notes the event e, and sends the answer a
 -- Hears l h w r h'  the house h heard w: what it noted and sent, and what it is then
 -- ticked h to       the house h that was told a tick
@@ -10,19 +9,18 @@ use Rattle.std.specs.Prelude.{◌≡◌, ℕ, Ok, Err, Result}
 use Rattle.house_rules.specs.House.{Home}
 use Rattle.house_rules.specs.Start.{Settled}
 use Rattle.house_rules.specs.declared.house.House.{House}
-use Rattle.house_rules.specs.declared.reply.Reply.{Reply}
-use Rattle.house_rules.specs.declared.reply.Reply.TheVariants.{Granted, Refused}
+use Rattle.house_rules.specs.Give.{Reply}
 use Rattle.house_side.specs.House.{Read, after_word, answer_to, asks, logs, read_at_house, sent_by, wrong}
 use Rattle.house_side.specs.declared.heard.Event.{Event}
 use Rattle.house_side.specs.declared.heard.Event.TheVariants as event
-use Rattle.house_side.specs.declared.heard.Heard.{Heard}
-use Rattle.house_side.specs.declared.heard.Sent.{Sent}
-use Rattle.house_side.specs.declared.heard.Sent.TheVariants as sent
 use Rattle.house_side.specs.declared.reading.Reading.{Reading}
 use Rattle.house_side.specs.declared.reading.Reading.TheVariants as reading
 use Rattle.locked.specs.Locked.{Bytes, Locks}
-use Rattle.locked.specs.declared.open.Unopened.{Unopened}
-use Rattle.locked.specs.declared.open.Unopened.TheVariants.{NoMemory, Wrong}
+use Rattle.locked.specs.declared.unopened.Unopened.{Unopened}
+use Rattle.locked.specs.declared.unopened.Unopened.TheVariants.{NoMemory, Wrong}
+use Rattle.parts.specs.declared.fault.Fault.{Fault}
+use Rattle.sending.specs.Heard.{word_of}
+use Rattle.sending.specs.declared.heard.Heard.{Heard as Telling}
 use Rattle.service_rules.specs.Side.{on_tick}
 use Rattle.std.specs.Option.{option_map}
 use Rattle.std.specs.declared.alloc.AllocError.{AllocError}
@@ -41,25 +39,25 @@ ReadAs x (Ok y) = x ≡ read_of y
 ReadAs x (Err why) = Unread x why
 
 -- of a login: the reader, its number, and until when the ticket is good
-abbrev pub login_event : Reply → Event
-login_event (Granted g t x) = event.LoggedIn g.reader g.number g.until
-login_event (Refused f) = event.Refused f
+abbrev pub login_event : Reply → Result Event Fault
+login_event (Ok x) = Ok (event.LoggedIn x.grant.reader x.grant.number x.grant.until)
+login_event (Err f) = Err f
 
-abbrev pub grant_event : Reply → Event
-grant_event (Granted g t x) = event.Granted g
-grant_event (Refused f) = event.Refused f
+abbrev pub grant_event : Reply → Result Event Fault
+grant_event (Ok x) = Ok (event.Granted x.grant)
+grant_event (Err f) = Err f
 
-abbrev pub event_of : Read → Reply → Event
+abbrev pub event_of : Read → Reply → Result Event Fault
 event_of (logs a x) r = login_event r
 event_of (asks t q) r = grant_event r
 event_of (wrong f) r = grant_event r
 
-abbrev pub word_of : Sent → Bytes
-word_of (sent.Grant w) = w
-word_of (sent.Refusal w) = w
+-- what the house notes and sends
+abbrev pub Heard : Type 0
+Heard = Telling Event 173
 
 -- the book has the event, and the word on the line is that of the answer
-pub record Tells (l : Locks) (e : Event) (a : Reply) (h : Heard) : Type 0 where
+pub record Tells (l : Locks) (e : Result Event Fault) (a : Reply) (h : Heard) : Type 0 where
   pub event : h.event ≡ e
   pub sent : option_map word_of h.sent ≡ sent_by l a
 

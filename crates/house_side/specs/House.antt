@@ -6,9 +6,8 @@
 -- sent_by l a          the bytes that go out with an answer
 use Rattle.std.specs.Prelude.{ℕ, cond, Some, Ok, Err, Option, Result}
 use Rattle.house_rules.specs.Account.{own_key, unknown}
+use Rattle.house_rules.specs.Give.{Reply}
 use Rattle.house_rules.specs.House.{Home, after, answered, logged_in, login_after}
-use Rattle.house_rules.specs.declared.reply.Reply.{Reply}
-use Rattle.house_rules.specs.declared.reply.Reply.TheVariants.{Granted, Refused}
 use Rattle.locked.specs.Locked.{Bytes, Locks, asking_in, digest_of, letter_lock, login_in, refusal_word, ticket_in, ticket_lock}
 use Rattle.parts.specs.declared.fault.Fault.{Fault}
 use Rattle.parts.specs.declared.fault.Fault.TheVariants.{Malformed, Unknown}
@@ -50,7 +49,7 @@ read_at_house l h w = elim (framed w) [ Ok f ↦ read_frame l h f | Err f ↦ wr
 abbrev pub answer_to : Locks → Home → Read → Reply
 answer_to l h (logs a x) = logged_in h a x
 answer_to l h (asks t q) = answered h t q (digest_of l t.key q.number)
-answer_to l h (wrong f) = Refused f
+answer_to l h (wrong f) = Err f
 
 abbrev pub after_word : Locks → Home → Read → Home
 after_word l h (logs a x) = login_after h a x
@@ -59,5 +58,5 @@ after_word l h (wrong f) = h
 
 -- a ticket and a letter, or a refusal
 abbrev pub sent_by : Locks → Reply → Option Bytes
-sent_by l (Granted g t x) = Some (write_word (frame.ticket_and_letter (ticket_lock l t) (letter_lock l x)))
-sent_by l (Refused f) = refusal_word f
+sent_by l (Ok x) = Some (write_word (frame.ticket_and_letter (ticket_lock l x.ticket) (letter_lock l x.letter)))
+sent_by l (Err f) = refusal_word f

@@ -8,11 +8,11 @@ ghost use Rattle.locked.specs.Locked.{ours};
 ghost use Rattle.parts.specs.Tick.{clock};
 ghost use Rattle.std.specs.Prelude.{◌≡◌, true, is_err};
 
-use crate::heard::{Heard, refused, told_grant, told_login};
+use crate::heard::{Heard, told_grant, told_login};
 use crate::reading::{Reading, read};
-use house_rules::{Accounts, Changed, House as Rules, Reply, close_account, open_account};
+use house_rules::{Accounts, Changed, Granted, House as Rules, close_account, open_account};
 use locked::Unopened;
-use parts::{Asking, Drawn, Key, Login, Ticked, Ticket};
+use parts::{Asking, Drawn, Fault, Key, Login, Ticked, Ticket};
 use seal::digest;
 use service_rules::Memory;
 use std::alloc::{AllocError, Global};
@@ -28,7 +28,8 @@ pub struct House<A, M, D> {
 
 impl<A: Accounts, M: Memory, D: Drawn> House<A, M, D> {
     // Decides on a login that was read.
-    fn log_in(&mut self, reader: u16, login: Login) -> Reply
+    // Its clauses and those of `ask` are alike in form: the answer, and the state after, seen through `home`.
+    fn log_in(&mut self, reader: u16, login: Login) -> Result<Granted, Fault>
         ensures answer { result ≡ answer_to ours
             (home self.old.house (A.listed self.old.accounts) (M.kept self.old.memory) (M.junk self.old.memory) (M.Memory.writes self.new.memory) (D.left self.old.drawn))
             (logs reader login) }
@@ -44,7 +45,7 @@ impl<A: Accounts, M: Memory, D: Drawn> House<A, M, D> {
     }
 
     // Decides on a ticket and an asking that were read.
-    fn ask(&mut self, ticket: Ticket, asking: Asking) -> Reply
+    fn ask(&mut self, ticket: Ticket, asking: Asking) -> Result<Granted, Fault>
         ensures answer { result ≡ answer_to ours
             (home self.old.house (A.listed self.old.accounts) (M.kept self.old.memory) (M.junk self.old.memory) (M.Memory.writes self.new.memory) (D.left self.old.drawn))
             (asks ticket asking) }
@@ -78,7 +79,7 @@ impl<A: Accounts, M: Memory, D: Drawn> House<A, M, D> {
     }
 
     // Opens an account with an own key.
-    pub fn open(&mut self, number: u16, key: Key) -> Changed
+    pub fn open(&mut self, number: u16, key: Key) -> Result<Changed, Fault>
         ensures answer { result ≡ opened (A.listed self.old.accounts) number (A.Accounts.writes self.new.accounts) }
         ensures after { A.listed self.new.accounts ≡ opened_after (A.listed self.old.accounts) number key (A.Accounts.writes self.new.accounts) }
         ensures keeps { A.Accounts.keeps self.old.accounts self.new.accounts }
@@ -89,7 +90,7 @@ impl<A: Accounts, M: Memory, D: Drawn> House<A, M, D> {
     }
 
     // Closes an account for good.
-    pub fn close(&mut self, number: u16) -> Changed
+    pub fn close(&mut self, number: u16) -> Result<Changed, Fault>
         ensures answer { result ≡ shut (A.listed self.old.accounts) number (A.Accounts.writes self.new.accounts) }
         ensures after { A.listed self.new.accounts ≡ shut_after (A.listed self.old.accounts) number (A.Accounts.writes self.new.accounts) }
         ensures keeps { A.Accounts.keeps self.old.accounts self.new.accounts }
@@ -101,6 +102,7 @@ impl<A: Accounts, M: Memory, D: Drawn> House<A, M, D> {
 
     // Hears a word: frames it, opens its locks, decides, and locks the answer. Where there is no memory to open it in,
     // all is as it was.
+    // A `match` and no `?`: what is wrong is answered by a refusal, want of memory alone is an error.
     pub fn hear(&mut self, heap: Global, word: &[u8]) -> Result<Heard, AllocError>
         ensures hears { Hears ours
             (home self.old.house (A.listed self.old.accounts) (M.kept self.old.memory) (M.junk self.old.memory) (M.Memory.writes self.new.memory) (D.left self.old.drawn))
@@ -113,7 +115,7 @@ impl<A: Accounts, M: Memory, D: Drawn> House<A, M, D> {
         match read(heap, &self.house, &self.accounts, word) {
             Ok(Reading::Login(reader, login)) => Ok(told_login(self.log_in(reader, login))),
             Ok(Reading::Asking(ticket, asking)) => Ok(told_grant(self.ask(ticket, asking))),
-            Err(Unopened::Wrong(fault)) => Ok(refused(fault)),
+            Err(Unopened::Wrong(fault)) => Ok(Heard::refused(fault)),
             Err(Unopened::NoMemory) => Err(AllocError),
         }
     }

@@ -5,5 +5,5 @@ mod heard;
 mod house;
 mod reading;
 
-pub use heard::{Event, Heard, Sent};
+pub use heard::{Event, Heard};
 pub use house::House;

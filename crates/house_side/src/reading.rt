@@ -7,7 +7,7 @@ ghost use Rattle.locked.specs.Locked.{ours, ticket_in};
 ghost use Rattle.parts.specs.declared.account.Entry.{Entry};
 
 use house_rules::{Accounts, House, is_unknown, own_key};
-use locked::{Unopened, open_asking, open_login, open_ticket};
+use locked::{Unopened, open, open_both};
 use parts::{Asking, Fault, Key, Login, Ticket};
 use std::alloc::Global;
 use wire::{Word, read_word};
@@ -23,12 +23,12 @@ pub enum Reading {
 fn read_asking(heap: Global, key: &Key, ticket: &[u8], asking: &[u8]) -> Result<Reading, Unopened>
     ensures { ReadAs (asking_under ours asking.now (ticket_in ours key.now ticket.now)) result }
 {
-    let ticket = open_ticket(heap, key, ticket)?;
-    let asking = open_asking(heap, &ticket.key, asking)?;
+    let (ticket, asking) = open_both(heap, key, ticket, asking)?;
     Ok(Reading::Asking(ticket, asking))
 }
 
 // A login under the reader's own key; a reader that isn't there is told before anything is opened.
+// This and `read` are no methods: whatever the house remembers and has drawn, a word is read alike.
 fn read_login<A: Accounts>(
     heap: Global,
     house: &House,
@@ -41,7 +41,7 @@ fn read_login<A: Accounts>(
     if is_unknown(accounts, reader) {
         return Err(Unopened::Wrong(Fault::Unknown));
     }
-    let login = open_login(heap, &own_key(accounts, reader), lock)?;
+    let login: Login = open(heap, &own_key(accounts, reader), lock)?;
     Ok(Reading::Login(reader, login))
 }
 
@@ -54,10 +54,9 @@ pub(crate) fn read<A: Accounts>(
 ) -> Result<Reading, Unopened>
     ensures { (es : List Entry) (j w : Bool) (bs : List ℕ) → ReadAs (read_at_house ours (home house.now (A.listed accounts.now) es j w bs) word.now) result }
 {
-    match read_word(word) {
-        Ok(Word::Login { reader, lock }) => read_login(heap, house, accounts, reader, lock),
-        Ok(Word::Asking { ticket, asking }) => read_asking(heap, &house.key, ticket, asking),
-        Ok(_) => Err(Unopened::Wrong(Fault::Malformed)),
-        Err(fault) => Err(Unopened::Wrong(fault)),
+    match read_word(word)? {
+        Word::Login { reader, lock } => read_login(heap, house, accounts, reader, lock),
+        Word::Asking { ticket, asking } => read_asking(heap, &house.key, ticket, asking),
+        _ => Err(Unopened::Wrong(Fault::Malformed)),
     }
 }

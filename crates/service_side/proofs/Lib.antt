@@ -1,1 +1,2 @@
 pub mod Unread
+pub mod Both

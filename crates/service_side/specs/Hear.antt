@@ -2,24 +2,20 @@
 --
 -- ReadAs x r          what the code read, r, is what the word is, x; or there was no memory
 -- event_of a          what stands in the book of an answer: the deed or the fault, and no key
--- word_of s           the bytes of what is sent
 -- Tells l a h         h notes and sends the answer a
 -- Hears l v k w r v'  a service v with the own key k heard w: what it noted and sent, and what it is then
 use Rattle.locked.specs.Locked.{Bytes, Locks}
-use Rattle.locked.specs.declared.open.Unopened.{Unopened}
-use Rattle.locked.specs.declared.open.Unopened.TheVariants.{NoMemory, Wrong}
+use Rattle.locked.specs.declared.unopened.Unopened.{Unopened}
+use Rattle.locked.specs.declared.unopened.Unopened.TheVariants.{NoMemory, Wrong}
+use Rattle.parts.specs.declared.fault.Fault.{Fault}
 use Rattle.parts.specs.declared.word.Asking.{Asking}
 use Rattle.parts.specs.declared.word.Key.{Key}
 use Rattle.parts.specs.declared.word.Ticket.{Ticket}
-use Rattle.service_rules.specs.Service.{View}
-use Rattle.service_rules.specs.declared.answer.Answer.{Answer}
-use Rattle.service_rules.specs.declared.answer.Answer.TheVariants.{Done, Refused}
+use Rattle.sending.specs.Heard.{word_of}
+use Rattle.sending.specs.declared.heard.Heard.{Heard as Telling}
+use Rattle.service_rules.specs.Service.{Answer, View}
+use Rattle.service_rules.specs.declared.answer.Deed.{Deed}
 use Rattle.service_side.specs.Service.{Read, after_word, answer_to, asks, read_at_service, sent_by, wrong}
-use Rattle.service_side.specs.declared.heard.Event.{Event}
-use Rattle.service_side.specs.declared.heard.Event.TheVariants as event
-use Rattle.service_side.specs.declared.heard.Heard.{Heard}
-use Rattle.service_side.specs.declared.heard.Sent.{Sent}
-use Rattle.service_side.specs.declared.heard.Sent.TheVariants.{Receipt, Refusal}
 use Rattle.std.specs.Option.{option_map}
 use Rattle.std.specs.declared.alloc.AllocError.{AllocError}
 use Rattle.std.specs.Prelude.{◌≡◌, Ok, Err, Result}
@@ -33,13 +29,13 @@ abbrev pub ReadAs : Read → Result (Ticket × Asking) Unopened → Type 0
 ReadAs x (Ok p) = x ≡ asks p.0 p.1
 ReadAs x (Err why) = Unread x why
 
-abbrev pub event_of : Answer → Event
-event_of (Done d r) = event.Done d
-event_of (Refused f) = event.Refused f
+abbrev pub event_of : Answer → Result Deed Fault
+event_of (Ok x) = Ok x.deed
+event_of (Err f) = Err f
 
-abbrev pub word_of : Sent → Bytes
-word_of (Receipt w) = w
-word_of (Refusal w) = w
+-- what a service notes and sends
+abbrev pub Heard : Type 0
+Heard = Telling Deed 52
 
 -- the book has the deed or the fault, and the word on the line is that of the answer
 pub record Tells (l : Locks) (a : Answer) (h : Heard) : Type 0 where

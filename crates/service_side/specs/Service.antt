@@ -12,9 +12,7 @@ use Rattle.parts.specs.declared.fault.Fault.TheVariants.{Malformed}
 use Rattle.parts.specs.declared.word.Asking.{Asking}
 use Rattle.parts.specs.declared.word.Key.{Key}
 use Rattle.parts.specs.declared.word.Ticket.{Ticket}
-use Rattle.service_rules.specs.Service.{View, after, answered}
-use Rattle.service_rules.specs.declared.answer.Answer.{Answer}
-use Rattle.service_rules.specs.declared.answer.Answer.TheVariants.{Done, Refused}
+use Rattle.service_rules.specs.Service.{Answer, View, after, answered}
 use Rattle.wire.specs.Word.{Frame, framed, write_word}
 use Rattle.wire.specs.Word as frame
 
@@ -42,7 +40,7 @@ read_at_service l k w = elim (framed w) [ Ok f ↦ read_frame l k f | Err f ↦ 
 -- what was read is decided; what can't be read is refused
 abbrev pub answer_to : Locks → View → Read → Answer
 answer_to l v (asks t q) = answered v t q (digest_of l t.key q.number)
-answer_to l v (wrong f) = Refused f
+answer_to l v (wrong f) = Err f
 
 abbrev pub after_word : Locks → View → Read → View
 after_word l v (asks t q) = after v t q (digest_of l t.key q.number)
@@ -50,5 +48,5 @@ after_word l v (wrong f) = v
 
 -- a receipt, or a refusal
 abbrev pub sent_by : Locks → Answer → Option Bytes
-sent_by l (Done d r) = Some (write_word (frame.receipt (receipt_lock l r)))
-sent_by l (Refused f) = refusal_word f
+sent_by l (Ok x) = Some (write_word (frame.receipt (receipt_lock l x.receipt)))
+sent_by l (Err f) = refusal_word f

@@ -4,5 +4,5 @@
 mod heard;
 mod service;
 
-pub use heard::{Event, Heard, Sent};
+pub use heard::Heard;
 pub use service::Service;

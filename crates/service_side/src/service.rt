@@ -1,17 +1,17 @@
 // A service: its side, its own key, its memory against repeating, and its drawn bytes.
-ghost use Rattle.locked.specs.Locked.{ours, ticket_in};
+ghost use Rattle.locked.specs.Locked.{ours};
 ghost use Rattle.parts.specs.Tick.{clock};
 ghost use Rattle.service_rules.specs.Service.{view};
 ghost use Rattle.service_rules.specs.Side.{on_tick};
 ghost use Rattle.service_side.specs.Hear.{Hears, ReadAs};
-ghost use Rattle.service_side.specs.Service.{after_word, answer_to, asking_under, asks, read_at_service};
+ghost use Rattle.service_side.specs.Service.{after_word, answer_to, asks, read_at_service};
 ghost use Rattle.std.specs.Prelude.{◌≡◌, true, is_err};
 
 use crate::heard::{Heard, told};
-use locked::{Unopened, open_asking, open_ticket};
+use locked::{Unopened, open_both};
 use parts::{Asking, Drawn, Fault, Key, Ticked, Ticket};
 use seal::digest;
-use service_rules::{Answer, Memory, Side};
+use service_rules::{Done, Memory, Side};
 use std::alloc::{AllocError, Global};
 use wire::{Word, read_word};
 
@@ -24,34 +24,21 @@ pub struct Service<M, D> {
     pub drawn: D,
 }
 
-// A ticket under the own key, and then an asking under the ticket's key.
-fn open_both(
-    heap: Global,
-    key: &Key,
-    ticket: &[u8],
-    asking: &[u8],
-) -> Result<(Ticket, Asking), Unopened>
-    ensures { ReadAs (asking_under ours asking.now (ticket_in ours key.now ticket.now)) result }
-{
-    let ticket = open_ticket(heap, key, ticket)?;
-    let asking = open_asking(heap, &ticket.key, asking)?;
-    Ok((ticket, asking))
-}
-
 // What a word is to a service with this key: reading stops at its first fault.
+// No method: reading changes nothing, and needs the key alone.
 fn read(heap: Global, key: &Key, word: &[u8]) -> Result<(Ticket, Asking), Unopened>
     ensures { ReadAs (read_at_service ours key.now word.now) result }
 {
-    match read_word(word) {
-        Ok(Word::Asking { ticket, asking }) => open_both(heap, key, ticket, asking),
-        Ok(_) => Err(Unopened::Wrong(Fault::Malformed)),
-        Err(fault) => Err(Unopened::Wrong(fault)),
+    match read_word(word)? {
+        Word::Asking { ticket, asking } => open_both(heap, key, ticket, asking),
+        _ => Err(Unopened::Wrong(Fault::Malformed)),
     }
 }
 
 impl<M: Memory, D: Drawn> Service<M, D> {
     // Decides on a ticket and an asking that were read.
-    fn decide(&mut self, ticket: Ticket, asking: Asking) -> Answer
+    // As the `ask` of the house: a digest, and then a decision of its own side.
+    fn decide(&mut self, ticket: Ticket, asking: Asking) -> Result<Done, Fault>
         ensures answer { result ≡ answer_to ours
             (view self.old.side (M.kept self.old.memory) (M.junk self.old.memory) (M.writes self.new.memory) (D.left self.old.drawn))
             (asks ticket asking) }
@@ -80,6 +67,7 @@ impl<M: Memory, D: Drawn> Service<M, D> {
 
     // Hears a word: frames it, opens its locks, decides, and locks the answer. Where there is no memory to open it in,
     // all is as it was.
+    // A `match` and no `?`: what is wrong is answered by a refusal, want of memory alone is an error.
     pub fn hear(&mut self, heap: Global, word: &[u8]) -> Result<Heard, AllocError>
         ensures hears { Hears ours
             (view self.old.side (M.kept self.old.memory) (M.junk self.old.memory) (M.writes self.new.memory) (D.left self.old.drawn))
@@ -91,7 +79,7 @@ impl<M: Memory, D: Drawn> Service<M, D> {
     {
         match read(heap, &self.key, word) {
             Ok((ticket, asking)) => Ok(told(self.decide(ticket, asking))),
-            Err(Unopened::Wrong(fault)) => Ok(told(Answer::Refused(fault))),
+            Err(Unopened::Wrong(fault)) => Ok(told(Err(fault))),
             Err(Unopened::NoMemory) => Err(AllocError),
         }
     }

@@ -1,5 +1,5 @@
 use Rattle.std.proofs.Common.{◌≡◌, ℕ, ◌+◌, get_or, drop, Some, Option, sym, ap, ◌∙◌}
-use Rattle.box_side.proofs.Tried.{ended, here, next, no_key, none, shut, some}
+use Rattle.box_side.proofs.Tried.{here, next, no_key, none, shut, some}
 use Rattle.box_side.proofs.open.open_first.Goals as goal
 use Rattle.box_side.specs.Box.{opens_first}
 use Rattle.locked.specs.Locked.{Bytes, Tried, ours}
@@ -34,8 +34,3 @@ loop-place-preserved c =
           ∙ sym (next kind keys i w c.loop-place-test.true x)
           ∙ c.loop-place.invariant.1,
     )
-
-pub returns : goal.returns
-returns c =
-    sym (ended (number_of c.args.kind) c.args.keys.now c.loop-place.place c.loop-place.word c.loop-place-test.false)
-    ∙ c.loop-place.invariant.1

@@ -5,8 +5,8 @@ use Rattle.locked.specs.Locked.{ours}
 use Rattle.std.proofs.Common.{◌≡◌, Ok, rules}
 use Rattle.wire.specs.Word.{framed, login}
 
-pub returns-in-Ok-Login : goal.returns-in-Ok-Login
-returns-in-Ok-Login g c = λ es j w bs.
+pub returns-in-Login : goal.returns-in-Login
+returns-in-Login g c = λ es j w bs.
     let h = home c.args.house.now (g.A.Accounts.listed c.args.accounts.now) es j w bs in
-    let e : framed c.args.word.now ≡ Ok (login c.in-Ok-Login.reader c.in-Ok-Login.lock.now) = search rules in
-    read-frame ours h c.args.word.now (login c.in-Ok-Login.reader c.in-Ok-Login.lock.now) c.read_login.result e (c.read_login.ensures es j w bs)
+    let e : framed c.args.word.now ≡ Ok (login c.in-Login.reader c.in-Login.lock.now) = search rules in
+    read-frame ours h c.args.word.now (login c.in-Login.reader c.in-Login.lock.now) c.read_login.result e (c.read_login.ensures es j w bs)

@@ -5,8 +5,6 @@ use Rattle.box_side.specs.Tickets.{boxed_by}
 use Rattle.box_side.specs.declared.ticket.TicketBytes.{TicketBytes}
 use Rattle.std.proofs.Common.{ap}
 
-pub returns : goal.returns
-returns g c = record {
-  answer = c.tick-ticked.ensures.answer;
-  after = ap (λ (b : Boxed TicketBytes). boxed_by bytes_of b) (c.tick-ticked.ensures.after (g.D.Drawn.left c.args.self.drawn));
-}
+pub returns-clause-after : goal.returns-clause-after
+returns-clause-after g c =
+    ap (λ (b : Boxed TicketBytes). boxed_by bytes_of b) (c.tick.ensures.after (g.D.Drawn.left c.args.self.now.drawn))

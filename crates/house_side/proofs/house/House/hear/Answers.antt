@@ -40,7 +40,7 @@ returns-in-Err-Wrong g c =
     let r = c.in-Err-Wrong.ensures es j w bs in
     let e : read_at_house ours h c.args.word.now ≡ wrong c.in-Err-Wrong.fault = search rules in
     record {
-      hears = heard-as ours h c.args.word.now (wrong c.in-Err-Wrong.fault) c.refused.result h e c.refused.ensures refl;
+      hears = heard-as ours h c.args.word.now (wrong c.in-Err-Wrong.fault) c.refused.result h e record { event = c.refused.ensures.event; sent = c.refused.ensures.sent } refl;
       accounts = refl;
       keeps = g.met.M.Memory.same s.memory;
       same = λ _. refl;
