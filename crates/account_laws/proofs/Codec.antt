@@ -1,7 +1,7 @@
 -- Accounts in bytes are read back. Assumes nothing.
 use Rattle.std.proofs.Common.{◌≡◌, ℕ, zero, suc, ◌+◌, ◌*◌, ◌<◌, ◌≤◌, Bool, true, false, cond, eqb, leb, ◌⊎◌, List, [], ◌∷◌, ◌++◌, length, get_or, take, drop, sym, refl, ap, ◌∙◌, subst, inl, inr, arith}
 use Rattle.account_laws.specs.Codec.{Back, ByValue, Full}
-use Rattle.accounts.specs.Bytes.{measure-is}
+use Rattle.accounts.specs.Bytes.{head_at, measure-is}
 use Rattle.accounts.specs.Entry.{Sized, account_in, entry, key_bytes, state_of, stated}
 use Rattle.accounts.specs.Payload.{account_at, accounts_in, low, payload}
 use Rattle.house_rules.specs.Account.{account_of}
@@ -9,7 +9,7 @@ use Rattle.parts.specs.declared.account.Account.{Account}
 use Rattle.parts.specs.declared.account.Account.TheVariants.{Absent, Closed, Open}
 use Rattle.parts.specs.declared.word.Key.{Key}
 use Rattle.std.proofs.lemmas.List.FromFn.{fill_by_all, get_or-map-range_with_len, length-map-range_with_len}
-use Rattle.std.proofs.lemmas.List.{drop_at, drop-drop, get_or-drop, get_or_past, get_or-take, length-append, length-drop, length-take-le, take_all, take_at}
+use Rattle.std.proofs.lemmas.List.{drop_at, drop-drop, get_or_past, length-append, length-drop, length-take-le, take_all, take_at}
 use Rattle.std.proofs.lemmas.Bool.{and_from, cases_eq, cases_lt, cond-false, le-leb, ne_eqb}
 use Rattle.std.specs.List.{flat_map}
 
@@ -57,10 +57,6 @@ unfolding low
 low-from bs zero h = refl
 low-from bs (suc m) h =
     and_from (low bs m) (leb (get_or bs (33 * (m + 1)) 0) 2) (low-from bs m (λ n l. h n (omega arith))) (le-leb _ 2 (h m (omega arith)))
-
-pub head_at : (bs : List ℕ) (i : ℕ) → get_or (take 33 (drop i bs)) 0 0 ≡ get_or bs i 0
-head_at bs i =
-    get_or-take 33 (drop i bs) 0 0 (omega arith) ∙ get_or-drop i bs 0 0 ∙ ap (λ (j : ℕ). get_or bs j 0) (omega arith)
 
 pub back : Back
 unfolding accounts_in payload

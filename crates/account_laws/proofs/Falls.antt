@@ -1,5 +1,5 @@
 -- What lasts over changes and falls. Assumes nothing.
-use Rattle.std.proofs.Common.{◌≡◌, ℕ, ◌+◌, ◌-◌, ◌^◌, ◌<◌, ◌≤◌, Bool, true, false, cond, not, eqb, ltb, leb, ◌⊎◌, List, length, drop, set, replicate, Some, None, Option, sym, refl, ap, ◌∙◌, subst, inl, inr, arith}
+use Rattle.std.proofs.Common.{◌≡◌, ℕ, ◌-◌, ◌<◌, ◌≤◌, Bool, true, false, cond, not, eqb, ltb, leb, ◌⊎◌, List, length, drop, set, replicate, Some, None, Option, Err, sym, refl, ap, ◌∙◌, subst, inl, inr, arith}
 use Rattle.account_laws.proofs.Codec.{back}
 use Rattle.account_laws.proofs.Sound.{Finds, Sound, all_in_lem, on-newest, rise-more, rise-same, risen-same}
 use Rattle.account_laws.proofs.Start.{SoundAt, start-sound}
@@ -9,20 +9,20 @@ use Rattle.accounts.specs.Bytes.{steady}
 use Rattle.accounts.specs.Entry.{Sized, above}
 use Rattle.accounts.specs.File.{Begins, Kept, State, Tries, accounts_on, all_in, begun, goes, holding, rises, state, whole}
 use Rattle.accounts.specs.Payload.{accounts_in, measure, payload}
-use Rattle.halves.proofs.Finding.{failing, writing}
+use Rattle.halves.proofs.Finding.{block-other, block-put, failing, next-is, writing}
 use Rattle.halves.proofs.Parts.{length-half}
 use Rattle.halves.specs.Blocks.{Blocks, block, other, over, put}
 use Rattle.halves.specs.Half.{blank, decoded, half, is_zero, sized}
-use Rattle.halves.specs.Halves.{Starts, full, good_of, is_new, known_of, next_of, payload_of, standing, wrote, last_of, which_of}
+use Rattle.halves.specs.Halves.{Starts, full, good_of, is_new, known_of, next_of, payload_of, standing, wrote, which_of}
 use Rattle.halves.specs.Laws.{Cut, Junk, Junks, KnowsAt, Knows, New, Old, cut_by}
 use Rattle.halves.specs.declared.half.Half.{Half}
 use Rattle.halves.specs.declared.halves.Good.{Good}
 use Rattle.halves.specs.declared.halves.Halves.{Halves}
 use Rattle.halves.specs.declared.which.Which.{Which}
 use Rattle.halves.specs.declared.which.Which.TheVariants.{First, Second}
-use Rattle.house_rules.specs.Account.{account_of, closed, is_closed}
+use Rattle.house_rules.specs.Account.{account_of, closed}
+use Rattle.parts.specs.Account.{is_closed}
 use Rattle.house_rules.specs.Change.{changed, closed_of, shut, shut_after, shut_from, written}
-use Rattle.house_rules.specs.declared.change.Changed.TheVariants.{Refused}
 use Rattle.parts.specs.declared.account.Account.{Account}
 use Rattle.parts.specs.declared.account.Account.TheVariants.{Absent, Closed, Open}
 use Rattle.parts.specs.declared.fault.Fault.TheVariants.{Unknown}
@@ -84,25 +84,11 @@ full-set xs n a f d z = record {
     go m (inr e) = subst P (sym e.1) z
 
 -- a write that goes somewhere has a turn, and all accounts
-next-len : (h : Halves) (n : ℕ) (g : Good) → next_of h n ≡ Some g → g.len ≡ n
-next-len h n g e = go (ltb (last_of h) (2 ^ 64 - 1)) e
-  where
-    it : Good
-    it = record { which = which_of h; turn = last_of h + 1; len = n }
-
-    go : (t : Bool) → cond t (Some it) None ≡ Some g → g.len ≡ n
-    go true k = let j : g ≡ it = cc in ap (λ (x : Good). x.len) j
-    go false k = let z : ◌≡◌ {A = ℕ} 0 1 = cc in absurd (omega arith)
+next-len : (h : Halves) (n : ℕ) (g : Good) → next_of h n ≡ Some g → g.half.len ≡ n
+next-len h n g e = sym (ap (λ (x : Good). x.half.len) (next-is h n g e).0)
 
 next-which : (h : Halves) (n : ℕ) (g : Good) → next_of h n ≡ Some g → g.which ≡ which_of h
-next-which h n g e = go (ltb (last_of h) (2 ^ 64 - 1)) e
-  where
-    it : Good
-    it = record { which = which_of h; turn = last_of h + 1; len = n }
-
-    go : (t : Bool) → cond t (Some it) None ≡ Some g → g.which ≡ which_of h
-    go true k = let j : g ≡ it = cc in ap (λ (x : Good). x.which) j
-    go false k = let z : ◌≡◌ {A = ℕ} 0 1 = cc in absurd (omega arith)
+next-which h n g e = sym (ap (λ (x : Good). x.which) (next-is h n g e).0)
 
 -- it goes somewhere only if the account rises
 goes_some : (s : State) (n : ℕ) (a : Account) (g : Good) → goes s n a ≡ Some g
@@ -119,15 +105,7 @@ knows xs h b s = let P : Option Good → Type 0 = λ o. KnowsAt measure o h.last
 
 -- the blocks once a half with these accounts was written
 abbrev After : Good → List Account → Blocks → Blocks
-After g ys b = cut_by g.which (half g.turn (payload ys)) New b
-
-block-put : (w : Which) (x : List ℕ) (b : Blocks) → block w (put w x b) ≡ x
-block-put First x b = refl
-block-put Second x b = refl
-
-block-other : (w : Which) (x : List ℕ) (b : Blocks) → block (other w) (put w x b) ≡ block (other w) b
-block-other First x b = refl
-block-other Second x b = refl
+After g ys b = cut_by g.which (half g.half.turn (payload ys)) New b
 
 -- a file of its size, by the lengths of its blocks
 whole_by : (b : Blocks) (w : Which) → length (block w b) ≡ 33816 → length (block (other w) b) ≡ 33816 → whole b ≡ true
@@ -150,7 +128,7 @@ length_over t p x l m = omega (arith, length-append (half t p) (drop (length (ha
 pub record Whole (g : Good) (ys : List Account) (b : Blocks) : Type 0 where
   pub size : whole (After g ys b) ≡ true
   pub finds : accounts_on (standing measure (After g ys b)) (After g ys b) ≡ Some ys
-  pub stands : decoded measure (block g.which (After g ys b)) ≡ Some record { turn = g.turn; len = g.len }
+  pub stands : decoded measure (block g.which (After g ys b)) ≡ Some g.half
   pub holds : accounts_in (payload_of (Some g) (After g ys b)) ≡ ys
 
 wholly : (xs : List Account) (h : Halves) (b : Blocks) → Sound xs h b → (ys : List Account) → Full ys → (g : Good) → next_of h 33792 ≡ Some g → Whole g ys b
@@ -163,8 +141,8 @@ wholly xs h b s ys f g e =
     let q : payload_of (Some g) c ≡ p = ap (λ (o : Option Good). payload_of o c) (sym w.0) ∙ w.1 in
     let old = block g.which b in
     let len : length (block g.which c) ≡ length old =
-    ap length (block-put g.which (over (half g.turn p) old) b) ∙ length_over g.turn p old k.0 (whole-len b g.which s.size) in
-    let v : whole c ≡ true = whole-still b c g.which s.size (block-other g.which (over (half g.turn p) old) b) len in
+    ap length (block-put g.which (over (half g.half.turn p) old) b) ∙ length_over g.half.turn p old k.0 (whole-len b g.which s.size) in
+    let v : whole c ≡ true = whole-still b c g.which s.size (block-other g.which (over (half g.half.turn p) old) b) len in
     record {
       size = v;
       finds = cond-true (whole c) (all_in (payload_of (standing measure c).newest c)) None v ∙ ap all_in w.1 ∙ all_in_lem p k.0 ∙ ap Some k.2;
@@ -205,7 +183,7 @@ kept-sound xs h b s ys f g e =
 
 -- the newest good half stands after a write that was not, whatever it left
 pub record Still (good : Good) (xs : List Account) (b : Blocks) : Type 0 where
-  pub stands : decoded measure (block good.which b) ≡ Some record { turn = good.turn; len = good.len }
+  pub stands : decoded measure (block good.which b) ≡ Some good.half
   pub holds : accounts_in (payload_of (Some good) b) ≡ xs
 
 still : (xs : List Account) (h : Halves) (b c : Blocks) → (s : Sound xs h b) → (g : Good) → next_of h 33792 ≡ Some g
@@ -218,8 +196,8 @@ still xs h b c s g e o =
 
 -- what a start finds then
 found_after : (xs : List Account) (h : Halves) (b : Blocks) → (s : Sound xs h b) → (ys : List Account) → Full ys → Rise xs ys → (g : Good) → next_of h 33792 ≡ Some g
-    → (x : Cut) → Junks measure x → whole (cut_by g.which (half g.turn (payload ys)) x b) ≡ true
-    → Finds xs (cut_by g.which (half g.turn (payload ys)) x b)
+    → (x : Cut) → Junks measure x → whole (cut_by g.which (half g.half.turn (payload ys)) x b) ≡ true
+    → Finds xs (cut_by g.which (half g.half.turn (payload ys)) x b)
 found_after xs h b s ys f r g e Old j v = s.later
 found_after xs h b s ys f r g e New j v = record { then = ys; found = (wholly xs h b s ys f g e).finds; risen = r }
 found_after xs h b s ys f r g e (Junk x) j v =
@@ -228,16 +206,16 @@ found_after xs h b s ys f r g e (Junk x) j v =
     let w : g.which ≡ other s.good.which =
     next-which h 33792 g e ∙ ap (λ (o : Option Good). which_of record { newest = o; junk = h.junk; last = h.last }) s.newest in
     let n : (standing measure c).newest ≡ Some s.good =
-    alone c s.good.which g.which record { turn = s.good.turn; len = s.good.len } w t.stands (ap (decoded measure) (block-put g.which x b) ∙ j) in
+    alone c s.good.which g.which s.good.half w t.stands (ap (decoded measure) (block-put g.which x b) ∙ j) in
     record { then = xs; found = on-newest c s.good v n ∙ ap Some t.holds; risen = rise-same xs xs refl }
 
 -- a write that was not told as done
 failed-sound : (xs : List Account) (h : Halves) (b : Blocks) → (s : Sound xs h b) → (ys : List Account) → Full ys → Rise xs ys → (g : Good) → next_of h 33792 ≡ Some g
     → (x : Cut) → Junks measure x
-    → length (block g.which (cut_by g.which (half g.turn (payload ys)) x b)) ≡ length (block g.which b)
-    → Sound xs h (cut_by g.which (half g.turn (payload ys)) x b)
+    → length (block g.which (cut_by g.which (half g.half.turn (payload ys)) x b)) ≡ length (block g.which b)
+    → Sound xs h (cut_by g.which (half g.half.turn (payload ys)) x b)
 failed-sound xs h b s ys f r g e x j l =
-    let bs = half g.turn (payload ys) in
+    let bs = half g.half.turn (payload ys) in
     let c = cut_by g.which bs x b in
     let t = still xs h b c s g e (cut-other g.which bs x b) in
     let v : whole c ≡ true = whole-still b c g.which s.size (cut-other g.which bs x b) l in
@@ -283,7 +261,7 @@ tries-goes s t n a i z (Some g) e false k l =
     let ys = set s.accounts n a in
     let f = full-set s.accounts n a i.full (eqb-false n 0 (not-true (eqb n 0) w.0)) z in
     let r = rise-set s.accounts n a (above-risen (account_of s.accounts n) a w.1) in (
-      sound-of t s.accounts s.known (cut_by g.which (half g.turn (payload ys)) l.0 s.blocks) k.1 k.2 l.2
+      sound-of t s.accounts s.known (cut_by g.which (half g.half.turn (payload ys)) l.0 s.blocks) k.1 k.2 l.2
           (failed-sound s.accounts s.known s.blocks i ys f r g q.1 l.0 l.1 (ap (λ (d : Blocks). length (block g.which d)) (sym l.2) ∙ l.3)),
       rise-same s.accounts t.accounts (sym k.1),
     )
@@ -314,7 +292,7 @@ fall-holds s i o c g =
     let b = s.blocks in
     let h = standing measure b in
     let S : Bool → Type 0 = λ v. Starts v measure b (replicate 33816 0) g.known c g.left in
-    let m = subst S (not_new b i.good.which record { turn = i.good.turn; len = i.good.len } i.stands) g.starts in
+    let m = subst S (not_new b i.good.which i.good.half i.stands) g.starts in
     g.holds
     ∙ ap (λ (y : Halves). begun y c) m.0
     ∙ ap (λ (d : Blocks). begun h d) m.1
@@ -373,8 +351,8 @@ shut-closed xs n w a = by (nobody n) a
     own (Open k) e f = told k e w f
     own (Closed k) e f = ap is_closed e
 
-    by : (v : Bool) → Answered (cond v (Refused Unknown) (shut_from (account_of xs n) w))
-        → closed (changed xs n (closed_of (account_of xs n)) (cond v (Refused Unknown) (shut_from (account_of xs n) w))) n ≡ true
+    by : (v : Bool) → Answered (cond v (Err Unknown) (shut_from (account_of xs n) w))
+        → closed (changed xs n (closed_of (account_of xs n)) (cond v (Err Unknown) (shut_from (account_of xs n) w))) n ≡ true
     by true f = absurd f
     by false f = own (account_of xs n) refl f
 
@@ -393,7 +371,7 @@ again b c d s t o g r h =
 pub happening : Happening
 happening s n a g z e x j l =
     let ys = set s.accounts n a in
-    let bs = half g.turn (payload ys) in
+    let bs = half g.half.turn (payload ys) in
     let c = cut_by g.which bs x s.blocks in
     let t = state s.accounts s.known c in
     let T : Option Good → Type 0 = λ v. Tries v s ys false t in
@@ -411,7 +389,7 @@ falling b c s t g r =
     let h = standing measure d in
     let u = state i.later.then h d in
     let S : Bool → Type 0 = λ v. Starts v measure d (replicate 33816 0) h d (replicate 33816 0) in
-    let n = not_new d i.good.which record { turn = i.good.turn; len = i.good.len } i.stands in (
+    let n = not_new d i.good.which i.good.half i.stands in (
       u,
       record {
         known = h;

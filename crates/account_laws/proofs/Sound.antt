@@ -33,7 +33,7 @@ pub record Sound (xs : List Account) (h : Halves) (b : Blocks) : Type 0 where
   pub size : whole b ≡ true
   pub good : Good
   pub newest : h.newest ≡ Some good
-  pub stands : decoded measure (block good.which b) ≡ Some record { turn = good.turn; len = good.len }
+  pub stands : decoded measure (block good.which b) ≡ Some good.half
   pub holds : accounts_in (payload_of (Some good) b) ≡ xs
   pub later : Finds xs b
 
@@ -114,12 +114,12 @@ newest-is b Second k e =
 
 -- a start reads the newest good half
 pub newest-stands : (b : Blocks) (g : Good) → (standing measure b).newest ≡ Some g
-    → decoded measure (block g.which b) ≡ Some record { turn = g.turn; len = g.len }
+    → decoded measure (block g.which b) ≡ Some g.half
 newest-stands b g e = go (standing measure b).newest (standing measure b).last e (starting measure b)
   where
-    go : (o : Option Good) (l : ℕ) → o ≡ Some g → KnowsAt measure o l b → decoded measure (block g.which b) ≡ Some record { turn = g.turn; len = g.len }
+    go : (o : Option Good) (l : ℕ) → o ≡ Some g → KnowsAt measure o l b → decoded measure (block g.which b) ≡ Some g.half
     go None l f k = let z : ◌≡◌ {A = ℕ} 0 1 = cc in absurd (omega arith)
-    go (Some m) l f k = let P : Good → Type 0 = λ y. decoded measure (block y.which b) ≡ Some record { turn = y.turn; len = y.len } in
+    go (Some m) l f k = let P : Good → Type 0 = λ y. decoded measure (block y.which b) ≡ Some y.half in
         let j : m ≡ g = cc in
         subst P j k
 
@@ -128,7 +128,7 @@ pub on-newest : (b : Blocks) (g : Good) → whole b ≡ true → (standing measu
 on-newest b g v e =
     cond-true (whole b) (all_in (payload_of (standing measure b).newest b)) None v
     ∙ ap (λ (o : Option Good). all_in (payload_of o b)) e
-    ∙ all_in_lem (payload_of (Some g) b) (good-part (block g.which b) g.turn g.len (newest-stands b g e))
+    ∙ all_in_lem (payload_of (Some g) b) (good-part (block g.which b) g.half.turn g.half.len (newest-stands b g e))
 
 -- where one half is good, a start finds accounts
 pub finds-some : (b : Blocks) (w : Which) (k : Half) → whole b ≡ true → decoded measure (block w b) ≡ Some k

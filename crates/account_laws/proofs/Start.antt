@@ -1,16 +1,16 @@
 -- After a start. Assumes nothing.
 use Rattle.std.proofs.Common.{◌≡◌, ℕ, ◌+◌, ◌-◌, ◌*◌, ◌<◌, ◌≤◌, Bool, true, false, cond, eqb, ◌⊎◌, List, length, get_or, take, drop, replicate, Some, None, Option, sym, refl, ap, ◌∙◌, subst, inl, inr, arith}
-use Rattle.account_laws.proofs.Codec.{at_in, full-in, head_at, length-in, low-from}
+use Rattle.account_laws.proofs.Codec.{at_in, full-in, length-in, low-from}
 use Rattle.account_laws.proofs.Sound.{Sound, finds-some, newest-stands, on-newest, rise-same}
 use Rattle.account_laws.specs.Falls.{Rise, Risen}
-use Rattle.accounts.specs.Bytes.{measure-is, steady}
+use Rattle.accounts.specs.Bytes.{head_at, measure-is, steady}
 use Rattle.accounts.specs.Entry.{account_in, key_bytes, stated}
 use Rattle.accounts.specs.File.{Begins, State, all_in, begun, holding, state, whole}
 use Rattle.accounts.specs.Payload.{account_at, accounts_in, low, measure}
 use Rattle.halves.proofs.Written.{decoded-after, part-after}
 use Rattle.halves.specs.Blocks.{Blocks, Writes, block, over}
 use Rattle.halves.specs.Half.{decoded, half, payload_in}
-use Rattle.halves.specs.Halves.{Makes, Starts, is_new, known_of, part_of, payload_of, standing, whether}
+use Rattle.halves.specs.Halves.{Makes, Starts, good_of, is_new, known_of, part_of, payload_of, standing, whether}
 use Rattle.halves.specs.declared.halves.Good.{Good}
 use Rattle.halves.specs.declared.halves.Halves.{Halves}
 use Rattle.halves.specs.declared.which.Which.{Which}
@@ -101,18 +101,18 @@ rise-absent xs ys a n = let P : Account → Type 0 = λ x. Risen x (account_of y
 
 -- a half of zeros that was written and is known as the newest
 made_at : (c : Blocks) (h : Halves) (s : State) (w : Which) (t : ℕ) (p : List ℕ) → Zero p → length p ≡ 33792
-    → h.newest ≡ Some record { which = w; turn = t; len = 33792 }
+    → h.newest ≡ Some (good_of w record { turn = t; len = 33792 })
     → decoded measure (block w c) ≡ Some record { turn = t; len = length p }
     → part_of (length p) (block w c) ≡ p
     → Some s ≡ begun h c → SoundAt s
 made_at c h s w t p z l n d e f =
     let i = held-is h c s f in
-    let g : Good = record { which = w; turn = t; len = 33792 } in
+    let g : Good = (good_of w record { turn = t; len = 33792 }) in
     let same : i.good ≡ g = cc in
     let q : payload_of (Some i.good) c ≡ p =
     ap (λ (y : Good). payload_of (Some y) c) same ∙ ap (λ (k : ℕ). part_of k (block w c)) (sym l) ∙ e in
     let xs = accounts_in (payload_of (Some i.good) c) in
-    let D : Good → Type 0 = λ y. decoded measure (block y.which c) ≡ Some record { turn = y.turn; len = y.len } in
+    let D : Good → Type 0 = λ y. decoded measure (block y.which c) ≡ Some y.half in
     let d' : D g = d ∙ ap (λ (k : ℕ). Some record { turn = t; len = k }) l in
     let ys = finds-some c w record { turn = t; len = length p } i.size d in
     let none : (k : ℕ) → account_of xs k ≡ Absent = λ k. ap (λ (y : List ℕ). account_of (accounts_in y) k) q ∙ absent-in p z k in

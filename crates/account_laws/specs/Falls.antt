@@ -9,7 +9,7 @@
 --   Happening, Falling                     every outcome of a write, and a fall, can come: no promise is empty
 -- A call is an opening, a closing or any other change, with whatever answer; it is known by what is promised of it.
 -- A write that was cut is a call that was not answered, and then a fall. The proofs stand in proofs/Falls.antt.
-use Rattle.std.specs.Prelude.{◌≡◌, ℕ, Bool, true, false, List, length, Some, None, Option, slice_set}
+use Rattle.std.specs.Prelude.{◌≡◌, ℕ, Bool, true, false, List, length, Some, None, Option, Ok, Err, slice_set}
 use Rattle.accounts.specs.Entry.{Sized}
 use Rattle.accounts.specs.File.{Begins, Kept, State, goes}
 use Rattle.accounts.specs.Payload.{measure, payload}
@@ -18,9 +18,7 @@ use Rattle.halves.specs.Half.{half}
 use Rattle.halves.specs.Laws.{Cut, Junks, cut_by}
 use Rattle.halves.specs.declared.halves.Good.{Good}
 use Rattle.house_rules.specs.Account.{account_of, closed}
-use Rattle.house_rules.specs.Change.{shut, shut_after}
-use Rattle.house_rules.specs.declared.change.Changed.{Changed}
-use Rattle.house_rules.specs.declared.change.Changed.TheVariants.{Done, Refused, Same}
+use Rattle.house_rules.specs.Change.{Answer, shut, shut_after}
 use Rattle.parts.specs.declared.account.Account.{Account}
 use Rattle.parts.specs.declared.account.Account.TheVariants.{Absent, Closed, Open}
 use Rattle.std.proofs.Common.{inl, inr}
@@ -45,7 +43,7 @@ abbrev pub Leaves : Option Good → List Account → Bool → Blocks → Blocks 
 Leaves None xs r b c = Unit {0}
 Leaves (Some g) xs true b c = Unit {0}
 Leaves (Some g) xs false b c =
-    (x : Cut) × Junks measure x × (c ≡ cut_by g.which (half g.turn (payload xs)) x b)
+    (x : Cut) × Junks measure x × (c ≡ cut_by g.which (half g.half.turn (payload xs)) x b)
     × (length (block g.which c) ≡ length (block g.which b))
 
 -- so it was at this call
@@ -71,10 +69,9 @@ Staying =
     → (n : ℕ) → closed t.accounts n ≡ true → closed u.accounts n ≡ true
 
 -- it was answered: done, or nothing had to change
-abbrev pub Answered : Changed → Type 0
-Answered Done = Unit {0}
-Answered Same = Unit {0}
-Answered (Refused f) = ⊥
+abbrev pub Answered : Answer → Type 0
+Answered (Ok d) = Unit {0}
+Answered (Err f) = ⊥
 
 -- a closing that was answered is never undone: t is the state before it, v after it, by what is promised of a closing
 abbrev pub Answering : Type 0
@@ -95,8 +92,8 @@ abbrev pub Happening : Type 0
 Happening =
     (s : State) (n : ℕ) (a : Account) (g : Good) → Sized a → goes s n a ≡ Some g
     → (x : Cut) → Junks measure x
-    → length (block g.which (cut_by g.which (half g.turn (payload (slice_set s.accounts n a))) x s.blocks)) ≡ length (block g.which s.blocks)
-    → (t : State) × (k : Kept s t) × Fair s t k × (t.blocks ≡ cut_by g.which (half g.turn (payload (slice_set s.accounts n a))) x s.blocks)
+    → length (block g.which (cut_by g.which (half g.half.turn (payload (slice_set s.accounts n a))) x s.blocks)) ≡ length (block g.which s.blocks)
+    → (t : State) × (k : Kept s t) × Fair s t k × (t.blocks ≡ cut_by g.which (half g.half.turn (payload (slice_set s.accounts n a))) x s.blocks)
 
 -- a fall can come at any moment, and leads on
 abbrev pub Falling : Type 0

@@ -3,18 +3,16 @@
 
 mod damage;
 
-use accounts::AccountFile;
+use accounts::{AccountFile, HALF};
 use anyhow::anyhow;
-use damage::{Copies, Damage, damaged, device_of, make_copies};
+use damage::{Copies, Damage, damaged, device_of, make_copies, new_file, open_both};
 use halves::{Device, Which};
-use house_rules::{Accounts, Changed, close_account, open_account};
+use house_rules::{Accounts, Changed, close_account};
 use memory_device::{Ends, MemoryDevice};
-use parts::{Account, Key};
-
-// How many bytes a half has.
-const SIZE: usize = 33816;
+use parts::{Account, Fault};
 
 // The state of an account.
+// This and the one below are no Display: their words are of this table alone.
 fn state(file: &AccountFile<MemoryDevice>, number: u16) -> &'static str {
     match file.account(number) {
         Account::Absent => "absent",
@@ -24,15 +22,16 @@ fn state(file: &AccountFile<MemoryDevice>, number: u16) -> &'static str {
 }
 
 // What a change is answered by.
-fn answer(changed: Changed) -> &'static str {
+fn answer(changed: Result<Changed, Fault>) -> &'static str {
     match changed {
-        Changed::Done => "done",
-        Changed::Same => "same",
-        Changed::Refused(_) => "refused",
+        Ok(Changed::Done) => "done",
+        Ok(Changed::Same) => "same",
+        Err(_) => "refused",
     }
 }
 
 // What a start gives.
+// Here, in `show`, `cut` and `unmade` the first two say where it is printed, and the name of its line.
 fn start(rt: &HostRuntime, name: &str, device: MemoryDevice) -> anyhow::Result<()> {
     match AccountFile::start(device) {
         Ok(file) => {
@@ -52,7 +51,7 @@ fn show(rt: &HostRuntime, name: &str, half: &[u8]) -> anyhow::Result<()> {
         print!(rt; "{byte:02x}")?;
     }
     print!(rt; " ")?;
-    for byte in half.iter().skip(SIZE - 16) {
+    for byte in half.iter().skip(HALF - 16) {
         print!(rt; "{byte:02x}")?;
     }
     println!(rt; "")?;
@@ -61,14 +60,10 @@ fn show(rt: &HostRuntime, name: &str, half: &[u8]) -> anyhow::Result<()> {
 
 // The halves of a new file, and after two openings.
 fn halves(rt: &HostRuntime) -> anyhow::Result<()> {
-    let device = MemoryDevice::filled(rt.alloc(), SIZE, 0)?;
-    let Ok(mut file) = AccountFile::start(device) else {
-        return Err(anyhow!("a new file does not start"));
-    };
+    let mut file = new_file(rt.alloc())?;
     show(rt, "new, first half", file.device.read(Which::First))?;
     show(rt, "new, second half", file.device.read(Which::Second))?;
-    open_account(&mut file, 5, Key([5; 32]));
-    open_account(&mut file, 7, Key([7; 32]));
+    open_both(&mut file);
     show(
         rt,
         "5 and 7 opened, first half",
@@ -83,9 +78,8 @@ fn halves(rt: &HostRuntime) -> anyhow::Result<()> {
 
 // What is held after a closing whose write ended so, and what a start finds then.
 fn cut(rt: &HostRuntime, name: &str, ends: Ends, copies: &Copies) -> anyhow::Result<()> {
-    let Ok(mut file) = AccountFile::start(device_of(rt.alloc(), copies.before.as_slice())?) else {
-        return Err(anyhow!("the file does not start"));
-    };
+    let device = device_of(rt.alloc(), &copies.before)?;
+    let mut file = AccountFile::start(device).map_err(|_| anyhow!("the file does not start"))?;
     file.device.set_ends(ends);
     let told = answer(close_account(&mut file, 5));
     let five = state(&file, 5);
@@ -97,104 +91,78 @@ fn cut(rt: &HostRuntime, name: &str, ends: Ends, copies: &Copies) -> anyhow::Res
 
 // A new file whose writes end so.
 fn unmade(rt: &HostRuntime, name: &str, ends: Ends) -> anyhow::Result<()> {
-    let mut device = MemoryDevice::filled(rt.alloc(), SIZE, 0)?;
+    let mut device = MemoryDevice::filled(rt.alloc(), HALF, 0)?;
     device.set_ends(ends);
     start(rt, name, device)
 }
 
-// One line of the table.
-fn line(rt: &HostRuntime, name: &str, damage: Damage, copies: &Copies) -> anyhow::Result<()> {
-    let bytes = damaged(rt.alloc(), damage, copies)?;
-    let device = device_of(rt.alloc(), bytes.as_slice())?;
-    start(rt, name, device)
+// The lines of a table: what a start gives after each damage.
+fn table(rt: &HostRuntime, copies: &Copies, lines: &[(&str, Damage)]) -> anyhow::Result<()> {
+    for (name, damage) in lines {
+        let bytes = damaged(rt.alloc(), *damage, copies)?;
+        start(rt, name, device_of(rt.alloc(), &bytes)?)?;
+    }
+    Ok(())
 }
 
 // What happens to the size, or to all of a half.
-fn large(rt: &HostRuntime, c: &Copies) -> anyhow::Result<()> {
-    line(rt, "none", Damage::None, c)?;
-    line(rt, "truncated to 0 bytes", Damage::Truncated(0), c)?;
-    line(rt, "truncated to 7 bytes", Damage::Truncated(7), c)?;
-    line(rt, "truncated to 16 bytes", Damage::Truncated(16), c)?;
-    line(rt, "truncated to a half", Damage::Truncated(SIZE), c)?;
-    line(rt, "last 5 bytes cut", Damage::Truncated(2 * SIZE - 5), c)?;
-    line(rt, "a byte more", Damage::Longer, c)?;
-    line(rt, "the file gone", Damage::Truncated(0), c)?;
-    line(rt, "noise", Damage::Noise, c)?;
-    line(
+fn large(rt: &HostRuntime, copies: &Copies) -> anyhow::Result<()> {
+    table(
         rt,
-        "zeros in the newer half",
-        Damage::Zeros(Which::Second),
-        c,
-    )?;
-    line(
-        rt,
-        "zeros in the older half",
-        Damage::Zeros(Which::First),
-        c,
-    )?;
-    line(
-        rt,
-        "zeros in both halves, which is a new file",
-        Damage::New,
-        c,
-    )?;
-    line(
-        rt,
-        "an older copy of the older half",
-        Damage::Older(Which::First),
-        c,
-    )?;
-    line(
-        rt,
-        "an older copy of the newer half",
-        Damage::Older(Which::Second),
-        c,
+        copies,
+        &[
+            ("none", Damage::None),
+            ("truncated to 0 bytes", Damage::Truncated(0)),
+            ("truncated to 7 bytes", Damage::Truncated(7)),
+            ("truncated to 16 bytes", Damage::Truncated(16)),
+            ("truncated to a half", Damage::Truncated(HALF)),
+            ("last 5 bytes cut", Damage::Truncated(2 * HALF - 5)),
+            ("a byte more", Damage::Longer),
+            ("the file gone", Damage::Truncated(0)),
+            ("noise", Damage::Noise),
+            ("zeros in the newer half", Damage::Zeros(Which::Second)),
+            ("zeros in the older half", Damage::Zeros(Which::First)),
+            ("zeros in both halves, which is a new file", Damage::New),
+            (
+                "an older copy of the older half",
+                Damage::Older(Which::First),
+            ),
+            (
+                "an older copy of the newer half",
+                Damage::Older(Which::Second),
+            ),
+        ],
     )
 }
 
 // What happens to one byte.
-fn small(rt: &HostRuntime, c: &Copies) -> anyhow::Result<()> {
-    line(rt, "a bit in the newer turn", Damage::Bit(SIZE + 7), c)?;
-    line(
+fn small(rt: &HostRuntime, copies: &Copies) -> anyhow::Result<()> {
+    table(
         rt,
-        "a bit in a newer state",
-        Damage::Bit(SIZE + 8 + 33 * 7),
-        c,
-    )?;
-    line(
-        rt,
-        "a bit in a newer key",
-        Damage::Bit(SIZE + 9 + 33 * 7),
-        c,
-    )?;
-    line(
-        rt,
-        "a bit in the newer sum",
-        Damage::Bit(SIZE + SIZE - 1),
-        c,
-    )?;
-    line(rt, "a bit in the older turn", Damage::Bit(7), c)?;
-    line(rt, "a bit in an older state", Damage::Bit(8 + 33 * 7), c)?;
-    line(rt, "a bit in an older key", Damage::Bit(9 + 33 * 7), c)?;
-    line(rt, "a bit in the older sum", Damage::Bit(SIZE - 1), c)?;
-    line(rt, "a bit in both", Damage::Both, c)?;
-    line(
-        rt,
-        "a newer state of 3, with its sum",
-        Damage::Summed(SIZE + 8 + 33 * 7, 3),
-        c,
-    )?;
-    line(
-        rt,
-        "a newer state of 3 of nobody, with its sum",
-        Damage::Summed(SIZE + 8, 3),
-        c,
-    )?;
-    line(
-        rt,
-        "a key of an absent one, with its sum",
-        Damage::Summed(SIZE + 9 + 33 * 9, 3),
-        c,
+        copies,
+        &[
+            ("a bit in the newer turn", Damage::Bit(HALF + 7)),
+            ("a bit in a newer state", Damage::Bit(HALF + 8 + 33 * 7)),
+            ("a bit in a newer key", Damage::Bit(HALF + 9 + 33 * 7)),
+            ("a bit in the newer sum", Damage::Bit(2 * HALF - 1)),
+            ("a bit in the older turn", Damage::Bit(7)),
+            ("a bit in an older state", Damage::Bit(8 + 33 * 7)),
+            ("a bit in an older key", Damage::Bit(9 + 33 * 7)),
+            ("a bit in the older sum", Damage::Bit(HALF - 1)),
+            ("a bit in both", Damage::Both),
+            (
+                "a newer state of 3, with its sum",
+                Damage::Summed(HALF + 8 + 33 * 7, 3),
+            ),
+            (
+                "a newer state of 3 of nobody, with its sum",
+                Damage::Summed(HALF + 8, 3),
+            ),
+            (
+                "a key of an absent one, with its sum",
+                Damage::Summed(HALF + 9 + 33 * 9, 3),
+            ),
+        ],
     )
 }
 

@@ -4,7 +4,7 @@
 --   above a b      b is what a may become
 --   account_in bs  the account that stands in 33 bytes; the key of an absent one is not looked at
 use Rattle.std.specs.Prelude.{◌≡◌, ℕ, Bool, false, cond, List, ◌∷◌, length, take, drop, ◌==◌, slice_index}
-use Rattle.house_rules.specs.Account.{is_absent, key_in}
+use Rattle.parts.specs.Account.{is_absent, key_in}
 use Rattle.parts.specs.declared.account.Account.{Account}
 use Rattle.parts.specs.declared.account.Account.TheVariants.{Absent, Closed, Open}
 use Rattle.parts.specs.declared.word.Key.{Key}

@@ -67,7 +67,7 @@ goes s n a = cond (rises s.accounts n a) (next_of s.known 33792) None
 abbrev pub Tries : Option Good → State → List Account → Bool → State → Type 0
 Tries None s xs r t = (r ≡ false) × (t ≡ s)
 Tries (Some g) s xs r t =
-    Writes g.which (half g.turn (payload xs)) s.blocks r t.blocks
+    Writes g.which (half g.half.turn (payload xs)) s.blocks r t.blocks
     × (t.accounts ≡ cond r xs s.accounts)
     × (t.known ≡ cond r (wrote s.known g) s.known)
 

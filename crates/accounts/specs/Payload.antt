@@ -3,13 +3,14 @@
 --   account_at bs n    the account of number n in these bytes; the entry of number 0 is not looked at
 --   accounts_in bs     the 1,024 accounts in these bytes
 --   low bs n           the states of the numbers from 1 to n are at most 2
+--   are_low es         no state of entries but the first is above 2
 --   measure bs         as many bytes as the payload at the front of these has, if one stands there
 use Rattle.std.specs.Prelude.{ℕ, zero, suc, ◌+◌, ◌*◌, Bool, true, cond, ◌&&◌, List, map, length, take, drop, Some, None, ◌==◌, nat_le, slice_index}
 use Rattle.accounts.specs.Entry.{account_in, entry}
 use Rattle.halves.specs.Half.{Measure}
 use Rattle.parts.specs.declared.account.Account.{Account}
 use Rattle.parts.specs.declared.account.Account.TheVariants.{Absent}
-use Rattle.std.specs.List.{range_with_len, flat_map}
+use Rattle.std.specs.List.{flat_map, list_all, range_with_len}
 
 -- the entries one after the other
 unfoldable pub payload : List Account → List ℕ
@@ -27,6 +28,10 @@ accounts_in bs = map (account_at bs) (range_with_len 0 1024)
 unfoldable pub low : List ℕ → ℕ → Bool
 low bs zero = true
 low bs (suc n) = low bs n && nat_le (slice_index bs (33 * (n + 1))) 2
+
+-- no state of entries but the first is above 2
+abbrev pub are_low : List (List ℕ) → Bool
+are_low es = list_all (λ e. nat_le (slice_index e 0) 2) (drop 1 es)
 
 -- a payload stands at the front of these bytes
 abbrev pub readable : List ℕ → Bool

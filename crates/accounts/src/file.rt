@@ -1,35 +1,35 @@
 // The accounts on a device of two halves: a change is written whole before it is held.
-ghost use Rattle.std.specs.Prelude.{◌≡◌, ◌<◌, cond, length, Some, None, MatchResult};
+ghost use Rattle.std.specs.Prelude.{◌≡◌, ◌<◌, Some, None, MatchResult, is_ok};
 ghost use Rattle.accounts.specs.Entry.{Sized};
 ghost use Rattle.accounts.specs.File.{Begins, Changes, Kept, accounts_on, all_in, state, whole};
 ghost use Rattle.accounts.specs.Payload.{payload as payload_of};
 ghost use Rattle.halves.specs.Half.{payload_in};
 ghost use Rattle.std.proofs.Common.{rules};
 
-use super::payload::{LEN, Payload, accounts_in, put_accounts};
+use super::payload::{COUNT, LEN, Payload, accounts_in, put_accounts};
 use super::rise::may_become;
-use halves::{Device, Halves, Which};
+use halves::{AROUND, Device, Halves, Which};
 use house_rules::Accounts;
-use parts::Account;
+use parts::{Account, NotWritten};
 
-// How many bytes a half has.
-const HALF: usize = 33816;
+// How many bytes a half has: the accounts, between a turn and a sum.
+pub const HALF: usize = LEN + AROUND;
 
 // All accounts, and the device on which each change is written before it counts.
 #[derive(Drop)]
 pub struct AccountFile<D> {
     pub device: D,
     halves: Halves,
-    accounts: [Account; 1024],
+    accounts: [Account; COUNT],
+    // whether the device wrote when it was last told to: the trait asks for it after the call too
     wrote: bool,
 }
 
 // Writes all accounts between room for the turn and room for the sum.
-fn encode(bytes: &mut [u8], accounts: &[Account; 1024])
-    requires { length bytes.old ≡ 33816 }
+fn encode(bytes: &mut [u8; HALF], accounts: &[Account; COUNT])
     ensures { payload_in bytes.new ≡ payload_of accounts.now }
 {
-    put_accounts(&mut bytes[8..33800], accounts);
+    put_accounts(&mut bytes[8..8 + LEN], accounts);
 }
 
 // Has the file its size?
@@ -40,34 +40,29 @@ fn is_whole<D: Device>(device: &D) -> bool
 }
 
 // The accounts in a payload of full length.
-fn all_in(payload: &[u8]) -> Option<[Account; 1024]>
+fn all_in(payload: &[u8]) -> Option<[Account; COUNT]>
     ensures { result ≡ all_in payload.now }
 {
-    if payload.len() == LEN {
-        Some(accounts_in(payload))
-    } else {
-        None
-    }
+    payload.as_array().map(accounts_in)
 }
 
 // The accounts in the newest good half, if the file has its size.
-fn accounts_of<D: Device>(halves: &Halves, device: &D) -> Option<[Account; 1024]>
+fn accounts_of<D: Device>(halves: &Halves, device: &D) -> Option<[Account; COUNT]>
     ensures { result ≡ accounts_on halves.now (D.blocks device.now) }
 {
-    if is_whole(device) {
-        all_in(halves.payload(device))
-    } else {
-        None
+    if !is_whole(device) {
+        return None;
     }
+    all_in(halves.payload(device))
 }
 
 impl<D: Device> AccountFile<D> {
     // Every start: a new file is made, any other is read. If no half is good or the file has another size, the house does not start, and has its device back.
-    pub fn start(device: D) -> Result<AccountFile<D>, D>
+    // A `match`, since both arms take the device.
+    pub fn start(mut device: D) -> Result<AccountFile<D>, D>
         ensures { MatchResult result (λ f. Begins (D.blocks device) (Some (state f.accounts f.halves (D.blocks f.device))) (D.blocks f.device)) (λ d. Begins (D.blocks device) None (D.blocks d)) }
     {
-        let mut device = device;
-        let mut bytes = [0u8; 33816];
+        let mut bytes = [0u8; HALF];
         let halves = Halves::start(&mut device, &Payload, &mut bytes);
         match accounts_of(&halves, &device) {
             Some(accounts) => Ok(AccountFile {
@@ -81,25 +76,21 @@ impl<D: Device> AccountFile<D> {
     }
 
     // Writes all accounts with one of them changed, and holds the change if that succeeded. A state that would not rise is not written.
-    fn change(&mut self, number: u16, account: Account) -> bool
+    fn change(&mut self, number: u16, account: Account) -> Result<(), NotWritten>
         requires { number < 1024 }
         ensures sized { Sized account }
-        ensures changes { Changes (state self.old.accounts self.old.halves (D.blocks self.old.device)) number account result (state self.new.accounts self.new.halves (D.blocks self.new.device)) }
+        ensures changes { Changes (state self.old.accounts self.old.halves (D.blocks self.old.device)) number account (is_ok result) (state self.new.accounts self.new.halves (D.blocks self.new.device)) }
     {
         if !may_become(&self.accounts, number, account) {
-            return false;
+            return Err(NotWritten);
         }
         let mut accounts = self.accounts;
         accounts[number as usize] = account;
-        let mut bytes = [0u8; 33816];
+        let mut bytes = [0u8; HALF];
         encode(&mut bytes, &accounts);
-        let mut halves = self.halves;
-        if !halves.write(&mut self.device, &mut bytes) {
-            return false;
-        }
-        self.halves = halves;
+        self.halves.write(&mut self.device, &mut bytes)?;
         self.accounts = accounts;
-        true
+        Ok(())
     }
 }
 
@@ -113,18 +104,15 @@ impl<D: Device> Accounts for AccountFile<D> {
     ghost same = { Prim.search rules };
 
     fn account(&self, number: u16) -> Account {
-        let accounts: &[Account] = &self.accounts;
-        let at = number as usize;
-        if at < accounts.len() {
-            accounts[at]
-        } else {
-            Account::Absent
-        }
+        self.accounts
+            .get(number as usize)
+            .copied()
+            .unwrap_or(Account::Absent)
     }
 
-    fn set(&mut self, number: u16, account: Account) -> bool {
-        let wrote = self.change(number, account);
-        self.wrote = wrote;
-        wrote
+    fn set(&mut self, number: u16, account: Account) -> Result<(), NotWritten> {
+        let written = self.change(number, account);
+        self.wrote = written.is_ok();
+        written
     }
 }

@@ -6,5 +6,5 @@ mod file;
 mod payload;
 mod rise;
 
-pub use file::AccountFile;
+pub use file::{AccountFile, HALF};
 pub use payload::Payload;

@@ -2,6 +2,7 @@
 --   packed es        the bytes of entries
 --   measured_of bs   how many bytes the entries at the front of bs take, none if they are more than 8,192
 --   count_in p       how many entries some bytes hold
+--   entry_of bs      the entry in its bytes
 --   unpacked p       the entries that they hold
 --   Fits e           the numbers of an entry fit their fields
 use Rattle.std.specs.Prelude.{ℕ, zero, suc, ◌+◌, ◌*◌, ◌^◌, ◌<◌, Bool, cond, ◌&&◌, List, [], ◌∷◌, ◌++◌, length, take, Some, None, Option, nat_le, nat_lt}
@@ -32,6 +33,10 @@ is_whole p = nat_le 2 (length p) && (nat_le (number (take 2 p)) 8192 && nat_le (
 
 abbrev pub count_in : List ℕ → ℕ
 count_in p = cond (is_whole p) (number (take 2 p)) 0
+
+-- the entry in its bytes
+abbrev pub entry_of : List ℕ → Entry
+entry_of bs = record { digest = number (part 0 16 bs); tick = number (part 16 8 bs) }
 
 -- the entry at a place
 abbrev pub entry_at : ℕ → List ℕ → Entry

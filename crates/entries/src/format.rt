@@ -3,8 +3,9 @@ ghost use Rattle.entries.specs.Bytes.{measured_of};
 ghost use Rattle.std.specs.Prelude.{◌≡◌};
 ghost use Rattle.std.proofs.Common.{rules};
 
-use super::bytes::front;
+use super::bytes::ENTRY;
 use halves::Format;
+use service_rules::ROOM;
 
 // What is remembered, as a payload: at most 8,192 entries.
 #[derive(Clone, Copy)]
@@ -18,17 +19,11 @@ impl Format for Entries {
     ghost steady = { Prim.search rules };
 
     fn measure(&self, bytes: &[u8]) -> Option<usize> {
-        if bytes.len() < 2 {
-            return None;
-        }
-        let count = front(bytes);
-        if count > 8192 {
-            return None;
-        }
-        Some(2 + 24 * count)
+        let count = u16::from_be_bytes(*bytes.first_chunk()?) as usize;
+        (count <= ROOM).then_some(2 + ENTRY * count)
     }
 
     fn most(&self) -> usize {
-        196610
+        2 + ENTRY * ROOM
     }
 }

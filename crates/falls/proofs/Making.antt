@@ -6,7 +6,7 @@ use Rattle.falls.specs.Falls.{Left}
 use Rattle.halves.proofs.Written.{decoded-after, part-after}
 use Rattle.halves.specs.Blocks.{Blocks, Writes, over}
 use Rattle.halves.specs.Half.{Measure, blank, decoded, half, is_zero, payload_in, sized}
-use Rattle.halves.specs.Halves.{full, known_of, makes, payload_of, whether}
+use Rattle.halves.specs.Halves.{full, good_of, known_of, makes, payload_of, whether}
 use Rattle.halves.specs.Laws.{Junk, Knows, New, Old}
 use Rattle.halves.specs.declared.half.Half.{Half}
 use Rattle.halves.specs.declared.which.Which.TheVariants.{First, Second}
@@ -51,16 +51,16 @@ pub make-so : (one two : Bool) (b c b' : Blocks) → decoded measured_of b.secon
     × (unpacked (payload_of (known_of 2 (whether one 1 2) (whether two 2 2)).newest b') ≡ [])
 make-so true true b c b' z f s l = (
   ap (λ (x : Blocks). decoded measured_of x.second) s ∙ decoded-after measured_of steady 2 none c.second (omega arith) (omega arith) none-fits,
-  ap (λ (x : Blocks). unpacked (payload_of (Some record { which = Second; turn = 2; len = 2 }) x)) s ∙ ap unpacked (part-after 2 none c.second) ∙ none_read,
+  ap (λ (x : Blocks). unpacked (payload_of (Some (good_of Second record { turn = 2; len = 2 })) x)) s ∙ ap unpacked (part-after 2 none c.second) ∙ none_read,
 )
 make-so true false b c b' z f s l =
     let e : b'.first ≡ over (half 1 none) b.first = s ∙ ap (λ (x : Blocks). x.first) f in (
       ap (decoded measured_of) e ∙ decoded-after measured_of steady 1 none b.first (omega arith) (omega arith) none-fits,
-      ap (λ (x : List ℕ). unpacked (payload_of (Some record { which = First; turn = 1; len = 2 }) record { first = x; second = b'.second })) e ∙ ap unpacked (part-after 1 none b.first) ∙ none_read,
+      ap (λ (x : List ℕ). unpacked (payload_of (Some (good_of First record { turn = 1; len = 2 })) record { first = x; second = b'.second })) e ∙ ap unpacked (part-after 1 none b.first) ∙ none_read,
     )
 make-so false true b c b' z f s l = (
   ap (λ (x : Blocks). decoded measured_of x.second) s ∙ decoded-after measured_of steady 2 none c.second (omega arith) (omega arith) none-fits,
-  ap (λ (x : Blocks). unpacked (payload_of (Some record { which = Second; turn = 2; len = 2 }) x)) s ∙ ap unpacked (part-after 2 none c.second) ∙ none_read,
+  ap (λ (x : Blocks). unpacked (payload_of (Some (good_of Second record { turn = 2; len = 2 })) x)) s ∙ ap unpacked (part-after 2 none c.second) ∙ none_read,
 )
 make-so false false b c b' z f s (Old, (j, e)) =
     ((λ k d. let y : Some k ≡ None = sym d ∙ ap (λ (x : Blocks). decoded measured_of x.second) e ∙ ap (decoded measured_of) f ∙ z in let q : ◌≡◌ {A = ℕ} 0 1 = cc in absurd (omega arith)), none-empty)

@@ -42,7 +42,7 @@ did_so : (lag d : ℕ) (done : List Entry) (s : State) (g : Good) → Inv lag do
     → next_of s.halves (length (packed (recorded s.now lag d s.kept))) ≡ Some g
     → Inv lag (record { digest = d; tick = s.now } ∷ done) record {
       halves = wrote s.halves g;
-      blocks = cut_by g.which (half g.turn (packed (recorded s.now lag d s.kept))) New s.blocks;
+      blocks = cut_by g.which (half g.half.turn (packed (recorded s.now lag d s.kept))) New s.blocks;
       kept = recorded s.now lag d s.kept;
       now = s.now;
       wake = s.wake;
@@ -52,7 +52,7 @@ did_so lag d done s g i awake room fits e =
     let p = packed es in
     let new : Entry = record { digest = d; tick = s.now } in
     let few : length es ≤ 8192 = omega (arith, length_push (live_of s.now lag s.kept) new) in
-    let b' = cut_by g.which (half g.turn p) New s.blocks in
+    let b' = cut_by g.which (half g.half.turn p) New s.blocks in
     let w = writing measured_of steady s.halves s.blocks i.known p (fitting es few) g e in
     let back : unpacked p ≡ es = unpacked-packed es few fits in
     record {
@@ -80,8 +80,8 @@ again-after : (lag d : ℕ) (done : List Entry) (s : State) (g : Good) → Inv l
     → next_of s.halves (length (packed (recorded s.now lag d s.kept))) ≡ Some g
     → (c : Cut) → Junks measured_of c
     → (x : Entry) → In x s.kept → live s.now lag x.tick ≡ true
-    → ((found measured_of (cut_by g.which (half g.turn (packed (recorded s.now lag d s.kept))) c s.blocks)).junk ≡ true)
-    ⊎ In x (unpacked (found measured_of (cut_by g.which (half g.turn (packed (recorded s.now lag d s.kept))) c s.blocks)).payload)
+    → ((found measured_of (cut_by g.which (half g.half.turn (packed (recorded s.now lag d s.kept))) c s.blocks)).junk ≡ true)
+    ⊎ In x (unpacked (found measured_of (cut_by g.which (half g.half.turn (packed (recorded s.now lag d s.kept))) c s.blocks)).payload)
 again-after lag d done s g i room fits e Old j x q l = i.again x q l
 again-after lag d done s g i room fits e New j x q l =
     let es = recorded s.now lag d s.kept in
@@ -97,7 +97,7 @@ did-not-so : (lag d : ℕ) (done : List Entry) (s : State) (g : Good) (b' : Bloc
     → length (live_of s.now lag s.kept) < 8192 → AllByRecursion Fits (recorded s.now lag d s.kept)
     → next_of s.halves (length (packed (recorded s.now lag d s.kept))) ≡ Some g
     → block (other g.which) b' ≡ block (other g.which) s.blocks
-    → Left measured_of g.which (half g.turn (packed (recorded s.now lag d s.kept))) s.blocks false b'
+    → Left measured_of g.which (half g.half.turn (packed (recorded s.now lag d s.kept))) s.blocks false b'
     → Inv lag done record { halves = s.halves; blocks = b'; kept = s.kept; now = s.now; wake = s.wake }
 did-not-so lag d done s g b' i awake room fits e same (c, (j, is)) =
     let f = failing measured_of s.halves s.blocks b' i.known (length (packed (recorded s.now lag d s.kept))) g e same in
@@ -235,7 +235,7 @@ which-block Second b = refl
 stands-there : (n : Option Good) (l : ℕ) (b : Blocks) → KnowsAt measured_of n l b → is_some n ≡ true → is_some (standing measured_of b).newest ≡ true
 stands-there None l b k e = let z : ◌≡◌ {A = ℕ} 0 1 = cc in absurd (omega arith)
 stands-there (Some g) l b k e =
-    some_known (decoded measured_of b.first) (decoded measured_of b.second) g.which record { turn = g.turn; len = g.len } (which-block g.which b ∙ k)
+    some_known (decoded measured_of b.first) (decoded measured_of b.second) g.which g.half (which-block g.which b ∙ k)
 
 -- a crash: what was done is found again, or junk
 before-so : (lag at : ℕ) (done : List Entry) (s : State) → Inv lag done s → s.now ≤ at → Before lag done s.blocks at

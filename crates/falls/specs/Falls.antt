@@ -37,7 +37,7 @@ Left m w bs b false b' = (c : Cut) × (Junks m c × (b' ≡ cut_by w bs c b))
 
 abbrev pub LeftAt : Option Good → List ℕ → Blocks → Bool → Blocks → Type 0
 LeftAt None p b r b' = Unit {0}
-LeftAt (Some g) p b r b' = Left measured_of g.which (half g.turn p) b r b'
+LeftAt (Some g) p b r b' = Left measured_of g.which (half g.half.turn p) b r b'
 
 -- the same of the second half of a new device
 abbrev pub LeftMaking : (v : Bool) (b : Blocks) (h : Halves) (b' : Blocks) (x' : List ℕ) → Starts v measured_of b nothing h b' x' → Type 0

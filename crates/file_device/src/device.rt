@@ -3,10 +3,14 @@ ghost use Rattle.memory_device.specs.Seen.{seen};
 
 use halves::{Device, Which};
 use memory_device::MemoryDevice;
+use parts::NotWritten;
 use std::alloc::AllocError;
 use std::fs::{File, OpenOptions};
 use std::io;
-use std::io::{Read, Seek, SeekFrom, Write};
+use std::io::{ErrorKind, Read, Seek, SeekFrom, Write};
+
+// The byte that fills a block of junk.
+const JUNK: u8 = 255;
 
 // The file, if it can be written, and its two blocks.
 #[derive(Drop)]
@@ -16,35 +20,37 @@ pub struct FileDevice {
 }
 
 // Opens a file to be read and written; only to be read, if it can't be written.
+// This and the one below are no methods: a file and its blocks become a device only when all was read.
 fn open_file(rt: &HostRuntime, path: &str) -> io::Result<File> {
-    match OpenOptions::new().read(true).write(true).open(rt, path) {
-        Ok(file) => Ok(file),
-        Err(_) => File::open(rt, path),
-    }
+    OpenOptions::new()
+        .read(true)
+        .write(true)
+        .open(rt, path)
+        .or_else(|_| File::open(rt, path))
 }
 
 // Reads both blocks of a file, if it has just their length.
-fn read_blocks(rt: &HostRuntime, path: &str, first: &mut [u8], second: &mut [u8]) -> Option<File> {
-    let Ok(mut file) = open_file(rt, path) else {
-        return None;
-    };
-    let Ok(about) = file.metadata() else {
-        return None;
-    };
-    if about.len().checked_sub(first.len() as u64) != Some(second.len() as u64) {
-        return None;
+fn read_blocks(
+    rt: &HostRuntime,
+    path: &str,
+    first: &mut [u8],
+    second: &mut [u8],
+) -> io::Result<File> {
+    let mut file = open_file(rt, path)?;
+    let len = file.metadata()?.len();
+    if len.checked_sub(first.len() as u64) != Some(second.len() as u64) {
+        return Err(ErrorKind::InvalidData.into());
     }
-    if file.read_exact(first).is_err() || file.read_exact(second).is_err() {
-        return None;
-    }
-    Some(file)
+    file.read_exact(first)?;
+    file.read_exact(second)?;
+    Ok(file)
 }
 
 // Makes a file of two blocks, in the place of whatever was there.
-fn make_file(rt: &HostRuntime, path: &str, first: &[u8], second: &[u8]) -> io::Result<File> {
+fn make_file(rt: &HostRuntime, path: &str, blocks: &MemoryDevice) -> io::Result<File> {
     let mut file = File::create(rt, path)?;
-    file.write_all(first)?;
-    file.write_all(second)?;
+    file.write_all(blocks.read(Which::First))?;
+    file.write_all(blocks.read(Which::Second))?;
     file.sync_all()?;
     Ok(file)
 }
@@ -63,14 +69,15 @@ impl FileDevice {
         path: &str,
         size: usize,
     ) -> Result<Option<FileDevice>, AllocError> {
-        let mut first = vec![in rt.alloc(); 255u8; size]?;
-        let mut second = vec![in rt.alloc(); 255u8; size]?;
-        let file = read_blocks(rt, path, first.as_mut_slice(), second.as_mut_slice());
-        if file.is_none() {
+        let mut first = vec![in rt.alloc(); JUNK; size]?;
+        let mut second = vec![in rt.alloc(); JUNK; size]?;
+        let Ok(file) = read_blocks(rt, path, first.as_mut_slice(), second.as_mut_slice()) else {
             return Ok(None);
-        }
-        let blocks = MemoryDevice::of(first, second);
-        Ok(Some(FileDevice { file, blocks }))
+        };
+        Ok(Some(FileDevice {
+            file: Some(file),
+            blocks: MemoryDevice::of(first, second),
+        }))
     }
 
     // A file of two blocks of so many bytes; one that is missing, has another size or can't be read is made anew, of bytes 255, which are junk. If it can't be made, nothing can be written.
@@ -82,10 +89,8 @@ impl FileDevice {
         if let Some(device) = FileDevice::open(rt, path, size)? {
             return Ok(device);
         }
-        let first = vec![in rt.alloc(); 255u8; size]?;
-        let second = vec![in rt.alloc(); 255u8; size]?;
-        let file = make_file(rt, path, first.as_slice(), second.as_slice()).ok();
-        let blocks = MemoryDevice::of(first, second);
+        let blocks = MemoryDevice::filled(rt.alloc(), size, JUNK)?;
+        let file = make_file(rt, path, &blocks).ok();
         Ok(FileDevice { file, blocks })
     }
 }
@@ -97,21 +102,16 @@ impl Device for FileDevice {
         self.blocks.read(which)
     }
 
-    fn write(&mut self, which: Which, bytes: &[u8]) -> bool {
-        let size = self.blocks.read(Which::First).len();
+    fn write(&mut self, which: Which, bytes: &[u8]) -> Result<(), NotWritten> {
         if bytes.len() > self.blocks.read(which).len() {
-            return false;
+            return Err(NotWritten);
         }
         let at = match which {
             Which::First => 0,
-            Which::Second => size as u64,
+            Which::Second => self.blocks.read(Which::First).len() as u64,
         };
-        let Some(file) = &mut self.file else {
-            return false;
-        };
-        if write_at(file, at, bytes).is_err() {
-            return false;
-        }
+        let file = self.file.as_mut().ok_or(NotWritten)?;
+        write_at(file, at, bytes).map_err(|_| NotWritten)?;
         self.blocks.write(which, bytes)
     }
 }

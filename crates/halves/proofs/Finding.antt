@@ -13,12 +13,12 @@ use Rattle.halves.specs.declared.which.Which.TheVariants.{First, Second}
 use Rattle.std.proofs.lemmas.Bool.{le-ltb, lt-ltb, ltb-true}
 
 -- what is written next, if the turn can be followed
-next-is : (h : Halves) (n : ℕ) (g : Good) → next_of h n ≡ Some g
-    → (record { which = which_of h; turn = last_of h + 1; len = n } ≡ g) × (last_of h < 2 ^ 64 - 1)
+pub next-is : (h : Halves) (n : ℕ) (g : Good) → next_of h n ≡ Some g
+    → (good_of (which_of h) record { turn = last_of h + 1; len = n } ≡ g) × (last_of h < 2 ^ 64 - 1)
 next-is h n g e = go (ltb (last_of h) (2 ^ 64 - 1)) refl e
   where
     it : Good
-    it = record { which = which_of h; turn = last_of h + 1; len = n }
+    it = good_of (which_of h) record { turn = last_of h + 1; len = n }
 
     go : (t : Bool) → ltb (last_of h) (2 ^ 64 - 1) ≡ t → cond t (Some it) None ≡ Some g → (it ≡ g) × (last_of h < 2 ^ 64 - 1)
     go true s k = ((cc), ltb-true (last_of h) (2 ^ 64 - 1) s)
@@ -54,50 +54,50 @@ second-newest (Some h) k lo = ap (λ (v : Bool). Some (cond v (good_of Second k)
 -- what is promised of a write that was told as done
 abbrev Whole : Measure → ℕ → Blocks → List ℕ → Good → Type 0
 Whole m l b p g =
-    ((found m (cut_by g.which (half g.turn p) New b)).newest ≡ Some g)
-    × ((found m (cut_by g.which (half g.turn p) New b)).payload ≡ p)
-    × KnowsAt m (Some g) l (cut_by g.which (half g.turn p) New b)
+    ((found m (cut_by g.which (half g.half.turn p) New b)).newest ≡ Some g)
+    × ((found m (cut_by g.which (half g.half.turn p) New b)).payload ≡ p)
+    × KnowsAt m (Some g) l (cut_by g.which (half g.half.turn p) New b)
 
 to-first : (m : Measure) → Steady m → (l t : ℕ) (b : Blocks) (p : List ℕ) → Fitting m p → t < 2 ^ 64 - 1
     → ((k : Half) → decoded m b.second ≡ Some k → k.turn ≤ t)
-    → Whole m l b p record { which = First; turn = t + 1; len = length p }
+    → Whole m l b p (good_of First record { turn = t + 1; len = length p })
 to-first m st l t b p fit lt lo =
     let c = cut_by First (half (t + 1) p) New b in
     let h : Half = record { turn = t + 1; len = length p } in
     let d : decoded m c.first ≡ Some h = decoded-after m st (t + 1) p b.first (omega arith) (omega arith) fit in
-    let n : (standing m c).newest ≡ Some record { which = First; turn = t + 1; len = length p } =
+    let n : (standing m c).newest ≡ Some (good_of First record { turn = t + 1; len = length p }) =
     ap (λ (o : Option Half). (known_of 0 o (decoded m b.second)).newest) d
     ∙ first-newest (decoded m b.second) h (λ k f. let le = lo k f in omega arith) in
     (n, ap (λ (o : Option Good). payload_of o c) n ∙ part-after (t + 1) p b.first, d)
 
 to-second : (m : Measure) → Steady m → (l t : ℕ) (b : Blocks) (p : List ℕ) → Fitting m p → t < 2 ^ 64 - 1
     → ((k : Half) → decoded m b.first ≡ Some k → k.turn ≤ t)
-    → Whole m l b p record { which = Second; turn = t + 1; len = length p }
+    → Whole m l b p (good_of Second record { turn = t + 1; len = length p })
 to-second m st l t b p fit lt lo =
     let c = cut_by Second (half (t + 1) p) New b in
     let h : Half = record { turn = t + 1; len = length p } in
     let d : decoded m c.second ≡ Some h = decoded-after m st (t + 1) p b.second (omega arith) (omega arith) fit in
-    let n : (standing m c).newest ≡ Some record { which = Second; turn = t + 1; len = length p } =
+    let n : (standing m c).newest ≡ Some (good_of Second record { turn = t + 1; len = length p }) =
     ap (λ (o : Option Half). (known_of 0 (decoded m b.first) o).newest) d
     ∙ second-newest (decoded m b.first) h (λ k f. let le = lo k f in omega arith) in
     (n, ap (λ (o : Option Good). payload_of o c) n ∙ part-after (t + 1) p b.second, d)
 
 -- what is known to stand there has its turn
-turn_is : (o : Option Half) (t n : ℕ) → o ≡ Some record { turn = t; len = n } → (k : Half) → o ≡ Some k → k.turn ≤ t
-turn_is o t n e k f =
-    let same : k ≡ record { turn = t; len = n } = cc in
-    let u : k.turn ≡ t = ap (λ (x : Half). x.turn) same in
+turn_is : (o : Option Half) (h : Half) → o ≡ Some h → (k : Half) → o ≡ Some k → k.turn ≤ h.turn
+turn_is o h e k f =
+    let same : k ≡ h = cc in
+    let u : k.turn ≡ h.turn = ap (λ (x : Half). x.turn) same in
     omega arith
 
 write-at : (m : Measure) → Steady m → (n : Option Good) (j : Bool) (l : ℕ) (b : Blocks) → KnowsAt m n l b → (p : List ℕ) → Fitting m p
     → last_of record { newest = n; junk = j; last = l } < 2 ^ 64 - 1
-    → Whole m l b p record { which = which_of record { newest = n; junk = j; last = l }; turn = last_of record { newest = n; junk = j; last = l } + 1; len = length p }
+    → Whole m l b p (good_of (which_of record { newest = n; junk = j; last = l }) record { turn = last_of record { newest = n; junk = j; last = l } + 1; len = length p })
 write-at m st None j l b kn p fit lt = to-first m st l l b p fit lt kn
 write-at m st (Some g) j l b kn p fit lt = by g.which kn
   where
-    by : (w : Which) → decoded m (block w b) ≡ Some record { turn = g.turn; len = g.len } → Whole m l b p record { which = other w; turn = g.turn + 1; len = length p }
-    by First k = to-second m st l g.turn b p fit lt (turn_is (decoded m b.first) g.turn g.len k)
-    by Second k = to-first m st l g.turn b p fit lt (turn_is (decoded m b.second) g.turn g.len k)
+    by : (w : Which) → decoded m (block w b) ≡ Some g.half → Whole m l b p (good_of (other w) record { turn = g.half.turn + 1; len = length p })
+    by First k = to-second m st l g.half.turn b p fit lt (turn_is (decoded m b.first) g.half k)
+    by Second k = to-first m st l g.half.turn b p fit lt (turn_is (decoded m b.second) g.half k)
 
 pub writing : Writing
 writing m st h b kn p fit g e =
@@ -116,7 +116,7 @@ fail-at m None l b b' kn s = ((λ k f. kn k (ap (decoded m) (sym s) ∙ f)), ref
 fail-at m (Some g) l b b' kn s =
     let P : Which → Type 0 = λ w. block w b' ≡ block w b in
     let u : block g.which b' ≡ block g.which b = subst P (other-other g.which) s in
-    (ap (decoded m) u ∙ kn, ap (λ (x : List ℕ). part_of g.len x) u)
+    (ap (decoded m) u ∙ kn, ap (λ (x : List ℕ). part_of g.half.len x) u)
 
 pub failing : Failing
 failing m h b b' kn n g e s =
@@ -168,11 +168,11 @@ swap-good (Some h) (Some k) z = go (ltb h.turn k.turn)
     go true = refl
     go false = refl
 
-block-put : (w : Which) (x : List ℕ) (b : Blocks) → block w (put w x b) ≡ x
+pub block-put : (w : Which) (x : List ℕ) (b : Blocks) → block w (put w x b) ≡ x
 block-put First x b = refl
 block-put Second x b = refl
 
-block-other : (w : Which) (x : List ℕ) (b : Blocks) → block (other w) (put w x b) ≡ block (other w) b
+pub block-other : (w : Which) (x : List ℕ) (b : Blocks) → block (other w) (put w x b) ≡ block (other w) b
 block-other First x b = refl
 block-other Second x b = refl
 
@@ -183,8 +183,8 @@ recovering m st b p fit g e New j =
     let q = decoded m b.second in
     let h = standing m b in
     let all = writing m st h b (starting m b) p fit g e in
-    let x = over (half g.turn p) (block g.which b) in
-    let z : Half = record { turn = g.turn; len = g.len } in
+    let x = over (half g.half.turn p) (block g.which b) in
+    let z = g.half in
     let w : g.which ≡ which_of h = sym (ap (λ (y : Good). y.which) (next-is h (length p) g e).0) in
     let d : decoded m x ≡ Some z = ap (decoded m) (sym (block-put g.which x b)) ∙ all.2 in
     let s : (standing m (put g.which x b)).junk ≡ not (is_some h.newest) =

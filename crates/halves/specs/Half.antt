@@ -8,10 +8,11 @@
 --   payload_in x     what stands between turn and sum of a half of just this length
 --   is_zero bs       nothing but zeros
 --   decoded m x      turn and length of payload of the half at the front of a block, none if it is junk
-use Rattle.std.specs.Prelude.{◌≡◌, ℕ, ◌+◌, ◌-◌, Bool, true, cond, ◌&&◌, ◌||◌, List, [], ◌∷◌, ◌++◌, length, take, drop, Some, None, Option, ◌==◌, nat_le, nat_lt}
+use Rattle.std.specs.Prelude.{◌≡◌, ℕ, ◌+◌, ◌-◌, Bool, cond, ◌&&◌, ◌||◌, List, ◌++◌, length, take, drop, Some, None, Option, ◌==◌, nat_le, nat_lt}
 use Rattle.contents.specs.Field.{bytes_of, number}
 use Rattle.halves.specs.declared.half.Half.{Half}
 use Rattle.hash.specs.Sha256.{sha256}
+use Rattle.std.specs.List.{list_all}
 use Rattle.std.specs.Str.{bytes_eq}
 
 -- how many bytes the payload has that stands at the front of some bytes, if one does
@@ -44,8 +45,7 @@ payload_in x = take (length x - 24) (drop 8 x)
 
 -- nothing but zeros
 abbrev pub is_zero : List ℕ → Bool
-is_zero [] = true
-is_zero (b ∷ bs) = b == 0 && is_zero bs
+is_zero bs = list_all (λ b. b == 0) bs
 
 -- too short for a half, or nothing but zeros
 abbrev pub blank : List ℕ → Bool

@@ -21,7 +21,7 @@ use Rattle.halves.specs.declared.which.Which.TheVariants.{First, Second}
 
 -- a half that was read, with its place
 abbrev pub good_of : Which → Half → Good
-good_of w h = record { which = w; turn = h.turn; len = h.len }
+good_of w h = record { which = w; half = h }
 
 -- the one with the higher turn; the first, if they have one turn
 abbrev pub newer_of : Half → Half → Good
@@ -44,11 +44,11 @@ which_of h = elim h.newest [ None ↦ First | Some g ↦ other g.which ]
 
 -- the turn that is followed
 abbrev pub last_of : Halves → ℕ
-last_of h = elim h.newest [ None ↦ h.last | Some g ↦ g.turn ]
+last_of h = elim h.newest [ None ↦ h.last | Some g ↦ g.half.turn ]
 
 -- where the next payload goes, of n bytes; none, if the turn can't be followed
 abbrev pub next_of : Halves → ℕ → Option Good
-next_of h n = cond (nat_lt (last_of h) (2 ^ 64 - 1)) (Some record { which = which_of h; turn = last_of h + 1; len = n }) None
+next_of h n = cond (nat_lt (last_of h) (2 ^ 64 - 1)) (Some (good_of (which_of h) record { turn = last_of h + 1; len = n })) None
 
 -- the payload of n bytes in a block
 abbrev pub part_of : ℕ → List ℕ → List ℕ
@@ -57,7 +57,7 @@ part_of n x = take n (drop 8 x)
 -- the payload of the newest good half
 abbrev pub payload_of : Option Good → Blocks → List ℕ
 payload_of None b = []
-payload_of (Some g) b = part_of g.len (block g.which b)
+payload_of (Some g) b = part_of g.half.len (block g.which b)
 
 -- where the payload goes that stands in lent bytes; none, if they have no room for turn and sum
 abbrev pub target : Halves → List ℕ → Option Good
@@ -72,9 +72,9 @@ wrote h g = record { newest = Some g; junk = not (is_some h.newest); last = h.la
 abbrev pub Tried : Option Good → Halves → Blocks → List ℕ → Bool → Halves → Blocks → List ℕ → Type 0
 Tried None h b x r h' b' x' = (r ≡ false) × (h' ≡ h) × (b' ≡ b) × (x' ≡ x)
 Tried (Some g) h b x r h' b' x' =
-    Writes g.which (half g.turn (payload_in x)) b r b'
+    Writes g.which (half g.half.turn (payload_in x)) b r b'
     × (h' ≡ cond r (wrote h g) h)
-    × (x' ≡ half g.turn (payload_in x))
+    × (x' ≡ half g.half.turn (payload_in x))
 
 -- a block of full length with nothing but zeros
 abbrev pub full : ℕ → List ℕ → Bool

@@ -23,7 +23,7 @@ Fitting m p = m p ≡ Some (length p)
 -- the newest good half stands there; where none is good, no higher turn than the last stands in the second
 abbrev pub KnowsAt : Measure → Option Good → ℕ → Blocks → Type 0
 KnowsAt m None l b = (k : Half) → decoded m b.second ≡ Some k → k.turn ≤ l
-KnowsAt m (Some g) l b = decoded m (block g.which b) ≡ Some record { turn = g.turn; len = g.len }
+KnowsAt m (Some g) l b = decoded m (block g.which b) ≡ Some g.half
 
 abbrev pub Knows : Measure → Halves → Blocks → Type 0
 Knows m h b = KnowsAt m h.newest h.last b
@@ -64,9 +64,9 @@ abbrev pub Writing : Type 0
 Writing =
     (m : Measure) → Steady m → (h : Halves) (b : Blocks) → Knows m h b
     → (p : List ℕ) → Fitting m p → (g : Good) → next_of h (length p) ≡ Some g
-    → ((found m (cut_by g.which (half g.turn p) New b)).newest ≡ Some g)
-    × ((found m (cut_by g.which (half g.turn p) New b)).payload ≡ p)
-    × KnowsAt m (Some g) h.last (cut_by g.which (half g.turn p) New b)
+    → ((found m (cut_by g.which (half g.half.turn p) New b)).newest ≡ Some g)
+    × ((found m (cut_by g.which (half g.half.turn p) New b)).payload ≡ p)
+    × KnowsAt m (Some g) h.last (cut_by g.which (half g.half.turn p) New b)
 
 -- a write that was not told as done, whatever it left: what is known is still so, and the payload that counts stands
 abbrev pub Failing : Type 0
@@ -89,4 +89,4 @@ abbrev pub Recovering : Type 0
 Recovering =
     (m : Measure) → Steady m → (b : Blocks) (p : List ℕ) → Fitting m p
     → (g : Good) → next_of (standing m b) (length p) ≡ Some g
-    → (c : Cut) → Junks m c → found m (cut_by g.which (half g.turn p) c b) ≡ after c (found m b) g p
+    → (c : Cut) → Junks m c → found m (cut_by g.which (half g.half.turn p) c b) ≡ after c (found m b) g p

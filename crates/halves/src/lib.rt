@@ -12,7 +12,7 @@ mod write;
 
 pub use device::Device;
 pub use format::Format;
-pub use half::{Half, decode};
+pub use half::{AROUND, Half, decode};
 pub use halves::{Good, Halves};
 pub use law::laws;
 pub use turns::part;

@@ -1,12 +1,16 @@
 // Two blocks in memory.
-ghost use Rattle.std.specs.Prelude.{◌≡◌, ◌≤◌, length, replicate, IfOk, if◌then◌else◌};
-ghost use Rattle.halves.specs.Blocks.{block as block_of, other, over, put};
+ghost use Rattle.std.specs.Prelude.{◌≡◌, replicate, IfOk, is_ok, if◌then◌else◌};
+ghost use Rattle.halves.specs.Blocks.{block as block_of, over, put};
 ghost use Rattle.memory_device.specs.Seen.{seen};
 
 use halves::{Device, Which};
+use parts::NotWritten;
 use std::alloc::{AllocError, Global};
 
-// How writes end: told as done; or not told as done, with the old left, the new, or junk.
+// What is left in a block whose write became junk.
+const JUNK: [u8; 26] = [255; 26];
+
+// How writes end: told as done; or not told as done, with the old left, the new, or junk. Four words of one kind, as the tables of the tests name them.
 #[derive(Clone, Copy)]
 pub enum Ends {
     Done,
@@ -16,6 +20,7 @@ pub enum Ends {
 }
 
 // The two blocks, and how writes to them end from now on.
+// Two names and no array: a device has a first and a second block, and no third.
 #[derive(Drop)]
 pub struct MemoryDevice {
     first: Vec<u8>,
@@ -23,23 +28,15 @@ pub struct MemoryDevice {
     ends: Ends,
 }
 
-// Writes bytes at the front of others: what stands behind them stays.
-fn lay_front(block: &mut [u8], bytes: &[u8])
-    requires { length bytes.now ≤ length block.old }
-    ensures { block.new ≡ over bytes.now block.old }
-{
-    block[0..bytes.len()].copy_from_slice(bytes);
-}
-
-// Writes bytes at the front of a block, if it has room for them.
-fn lay(block: &mut Vec<u8>, bytes: &[u8]) -> bool
-    ensures { block.new.items ≡ (if result then over bytes.now block.old.items else block.old.items) }
+// Writes bytes at the front of a block, if it has room for them: what stands behind them stays.
+fn lay(block: &mut [u8], bytes: &[u8]) -> Result<(), NotWritten>
+    ensures { block.new ≡ (if is_ok result then over bytes.now block.old else block.old) }
 {
     if bytes.len() > block.len() {
-        return false;
+        return Err(NotWritten);
     }
-    lay_front(block.as_mut_slice(), bytes);
-    true
+    block[..bytes.len()].copy_from_slice(bytes);
+    Ok(())
 }
 
 impl MemoryDevice {
@@ -49,11 +46,7 @@ impl MemoryDevice {
     {
         let first = vec![in heap; byte; size]?;
         let second = vec![in heap; byte; size]?;
-        Ok(MemoryDevice {
-            first,
-            second,
-            ends: Ends::Done,
-        })
+        Ok(MemoryDevice::of(first, second))
     }
 
     // Two blocks with these bytes; writes are done.
@@ -78,26 +71,12 @@ impl MemoryDevice {
     }
 
     // Writes bytes at the front of a block, if it has room for them; the other block is as it was.
-    fn lay_in(&mut self, which: Which, bytes: &[u8]) -> bool
-        ensures { seen self.new ≡ (if result then put which (over bytes.now (block_of which (seen self.old))) (seen self.old) else seen self.old) }
+    fn lay_in(&mut self, which: Which, bytes: &[u8]) -> Result<(), NotWritten>
+        ensures { seen self.new ≡ (if is_ok result then put which (over bytes.now (block_of which (seen self.old))) (seen self.old) else seen self.old) }
     {
         match which {
-            Which::First => lay(&mut self.first, bytes),
-            Which::Second => lay(&mut self.second, bytes),
-        }
-    }
-
-    // Makes junk of a block; the other is as it was.
-    fn spoil(&mut self, which: Which)
-        ensures { block_of (other which) (seen self.new) ≡ block_of (other which) (seen self.old) }
-    {
-        match which {
-            Which::First => {
-                let _ = lay(&mut self.first, &[255u8; 26]);
-            }
-            Which::Second => {
-                let _ = lay(&mut self.second, &[255u8; 26]);
-            }
+            Which::First => lay(self.first.as_mut_slice(), bytes),
+            Which::Second => lay(self.second.as_mut_slice(), bytes),
         }
     }
 }
@@ -112,17 +91,17 @@ impl Device for MemoryDevice {
         }
     }
 
-    fn write(&mut self, which: Which, bytes: &[u8]) -> bool {
+    fn write(&mut self, which: Which, bytes: &[u8]) -> Result<(), NotWritten> {
         match self.ends {
             Ends::Done => self.lay_in(which, bytes),
-            Ends::Old => false,
+            Ends::Old => Err(NotWritten),
             Ends::New => {
                 let _ = self.lay_in(which, bytes);
-                false
+                Err(NotWritten)
             }
             Ends::Junk => {
-                self.spoil(which);
-                false
+                let _ = self.lay_in(which, &JUNK);
+                Err(NotWritten)
             }
         }
     }

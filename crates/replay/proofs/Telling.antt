@@ -13,7 +13,7 @@ told_of : (o : Option Good) (h : Halves) (b : Blocks) (x p : List ℕ) (r : Bool
     → payload_in x ≡ p → Tried o h b x r h' b' x' → Told o h b p r h' b'
 told_of None h b x p r h' b' x' e t = (t.0, t.1, t.2)
 told_of (Some g) h b x p r h' b' x' e t =
-    let P : List ℕ → Type 0 = λ y. Writes g.which (half g.turn y) b r b' in
+    let P : List ℕ → Type 0 = λ y. Writes g.which (half g.half.turn y) b r b' in
     (subst P e t.0, t.1)
 
 -- the bytes that are handed on: eight, a payload, and sixteen

@@ -19,7 +19,7 @@ use Rattle.service_rules.specs.Memory.{highest, recorded}
 -- a payload goes to the half whose turn it is; what is known changes only if it was written
 abbrev pub Told : Option Good → Halves → Blocks → List ℕ → Bool → Halves → Blocks → Type 0
 Told None h b p r h' b' = (r ≡ false) × (h' ≡ h) × (b' ≡ b)
-Told (Some g) h b p r h' b' = Writes g.which (half g.turn p) b r b' × (h' ≡ cond r (wrote h g) h)
+Told (Some g) h b p r h' b' = Writes g.which (half g.half.turn p) b r b' × (h' ≡ cond r (wrote h g) h)
 
 -- one more thing is written down, with those that are not forgotten
 abbrev pub Recorded : (now lag digest : ℕ) → List Entry → Halves → Blocks → Bool → Halves → Blocks → Type 0

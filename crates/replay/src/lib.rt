@@ -2,6 +2,5 @@
 #![tactic(auto)]
 
 mod memory;
-mod write;
 
 pub use memory::ReplayMemory;

@@ -2,21 +2,20 @@
 ghost use Rattle.std.specs.Prelude.{◌≡◌, ◌≤◌, vec_len, vec_capacity};
 
 use halves::Halves;
+use parts::Entry;
 
 mod recall;
 
-// Digests beside ticks, the oldest first, and room for a half; `junk` is what the start found, until something is recorded.
+// Entries, the oldest first, and room for a half; `junk` is what the start found, until something is recorded.
+// `writes` is kept since the trait tells by it, after a recording too, whether the device wrote.
 #[derive(Drop)]
 pub struct ReplayMemory<D> {
     device: D,
     halves: Halves,
     junk: bool,
     writes: bool,
-    digests: Vec<u128>,
-    ticks: Vec<u64>,
+    entries: Vec<Entry>,
     half: Vec<u8>,
-    ghost even: { vec_len digests ≡ vec_len ticks },
-    ghost first: { 8192 ≤ vec_capacity digests },
-    ghost second: { 8192 ≤ vec_capacity ticks },
+    ghost room: { 8192 ≤ vec_capacity entries },
     ghost long: { vec_len half ≡ 196634 },
 }

@@ -3,8 +3,9 @@
 
 use halves::{Device, Which};
 use memory_device::{Ends, MemoryDevice};
+use parts::{Clock, NotWritten};
 use replay::ReplayMemory;
-use service_rules::Memory;
+use service_rules::{Memory, ROOM};
 use std::alloc::{AllocError, Global};
 
 // How many bytes a block has.
@@ -17,24 +18,58 @@ const TWO: u128 = 0x4fe1ac1a063bc8eaf4a61ec0ec0a8251;
 
 const LAG: u64 = 5;
 
-// What can happen to a file of two halves, of which the second is the newer.
+// What can happen to a file of two halves, of which the second is the newer. One that is gone or has another length is made anew, of bytes 255.
+// A damage is a value, so that a table has a name and a damage in each line.
 #[derive(Clone, Copy)]
 enum Damage {
     None,
-    Length,
-    Gone,
+    Anew,
     Noise,
     Zeros,
     Bit(usize),
     Older,
 }
 
+// The twelve damages, after none.
+const TABLE: [(&str, Damage); 13] = [
+    ("none", Damage::None),
+    ("truncated to 0 bytes", Damage::Anew),
+    ("truncated to 7 bytes", Damage::Anew),
+    ("truncated to 16 bytes", Damage::Anew),
+    ("last 5 bytes cut", Damage::Anew),
+    ("noise", Damage::Noise),
+    ("zeros in the newer half", Damage::Zeros),
+    ("a bit in the turn", Damage::Bit(7)),
+    ("a bit in the count", Damage::Bit(9)),
+    ("a bit in an entry", Damage::Bit(12)),
+    ("a bit in the sum", Damage::Bit(60)),
+    ("an older copy of the older half", Damage::Older),
+    ("the file gone", Damage::Anew),
+];
+
+// The two halves of a file, and an older copy of the first.
+#[derive(Clone, Copy)]
+struct Copies<'a> {
+    first: &'a [u8],
+    second: &'a [u8],
+    older: &'a [u8],
+}
+
+// The clock at a tick.
+fn at(tick: u64) -> Clock {
+    Clock { tick, lag: LAG }
+}
+
 // Records a thing, if there is room.
-fn record(memory: &mut ReplayMemory<MemoryDevice>, digest: u128, tick: u64) -> bool {
-    if memory.live(tick, LAG) >= 8192 {
-        return false;
+fn record(
+    memory: &mut ReplayMemory<MemoryDevice>,
+    digest: u128,
+    clock: Clock,
+) -> Result<(), NotWritten> {
+    if memory.live(clock) >= ROOM {
+        return Err(NotWritten);
     }
-    memory.record(digest, tick, LAG)
+    memory.record(digest, clock)
 }
 
 // Bytes in hex.
@@ -47,57 +82,52 @@ fn show(rt: &HostRuntime, name: &str, bytes: &[u8], count: usize) -> anyhow::Res
     Ok(())
 }
 
-// Flips one bit.
+// Flips one bit. As the noise below it also stands in account_tests: a crate for both would need a definition of the noise and a proof.
 fn flip(bytes: &mut [u8], at: usize) {
-    if at < bytes.len() {
-        bytes[at] ^= 1;
+    if let Some(byte) = bytes.get_mut(at) {
+        *byte ^= 1;
     }
 }
 
 // Bytes without any order.
 fn noise(bytes: &mut [u8]) {
     let mut seed = 12345u32;
-    for byte in bytes.iter_mut() {
+    for byte in bytes {
         seed = seed.wrapping_mul(1664525).wrapping_add(1013904223);
         *byte = (seed >> 24) as u8;
     }
 }
 
-// The device that a start finds after a damage. A file that is gone or has another length is made anew, of bytes 255.
-fn damaged(
-    heap: Global,
-    damage: Damage,
-    first: &[u8],
-    second: &[u8],
-    older: &[u8],
-) -> Result<MemoryDevice, AllocError> {
-    let mut one = Vec::from_slice(heap, first)?;
-    let mut two = Vec::from_slice(heap, second)?;
+// The device that a start finds after a damage.
+fn damaged(heap: Global, damage: Damage, copies: Copies<'_>) -> Result<MemoryDevice, AllocError> {
+    let mut first = Vec::from_slice(heap, copies.first)?;
+    let mut second = Vec::from_slice(heap, copies.second)?;
     match damage {
         Damage::None => {}
-        Damage::Length | Damage::Gone => {
-            one.as_mut_slice().fill(255);
-            two.as_mut_slice().fill(255);
+        Damage::Anew => {
+            first.as_mut_slice().fill(255);
+            second.as_mut_slice().fill(255);
         }
         Damage::Noise => {
-            noise(one.as_mut_slice());
-            noise(two.as_mut_slice());
+            noise(first.as_mut_slice());
+            noise(second.as_mut_slice());
         }
-        Damage::Zeros => two.as_mut_slice().fill(0),
-        Damage::Bit(at) => flip(two.as_mut_slice(), at),
+        Damage::Zeros => second.as_mut_slice().fill(0),
+        Damage::Bit(at) => flip(second.as_mut_slice(), at),
         Damage::Older => {
-            drop(one);
-            one = Vec::from_slice(heap, older)?;
+            drop(first);
+            first = Vec::from_slice(heap, copies.older)?;
         }
     }
-    Ok(MemoryDevice::of(one, two))
+    Ok(MemoryDevice::of(first, second))
 }
 
 // What a start makes of a device.
+// No Display: words of this table alone.
 fn outcome(memory: &ReplayMemory<MemoryDevice>) -> &'static str {
     if memory.junk() {
         "waits"
-    } else if memory.stands(ONE, 101, LAG) && memory.stands(TWO, 101, LAG) {
+    } else if memory.stands(ONE, at(101)) && memory.stands(TWO, at(101)) {
         "remembers"
     } else {
         "FORGETS"
@@ -105,12 +135,10 @@ fn outcome(memory: &ReplayMemory<MemoryDevice>) -> &'static str {
 }
 
 // Whether something is so.
+// No Display: words of this table alone.
 fn say(rt: &HostRuntime, what: &str, is: bool) -> anyhow::Result<()> {
-    if is {
-        print!(rt; " {what} yes")?;
-    } else {
-        print!(rt; " {what} no")?;
-    }
+    let answer = if is { "yes" } else { "no" };
+    print!(rt; " {what} {answer}")?;
     Ok(())
 }
 
@@ -118,7 +146,7 @@ fn say(rt: &HostRuntime, what: &str, is: bool) -> anyhow::Result<()> {
 fn prepared(heap: Global, ends: Ends) -> Result<ReplayMemory<MemoryDevice>, AllocError> {
     let device = MemoryDevice::filled(heap, SIZE, 0)?;
     let mut memory = ReplayMemory::start(heap, device)?;
-    record(&mut memory, ONE, 100);
+    let _ = record(&mut memory, ONE, at(100));
     let mut device = memory.into_device();
     device.set_ends(ends);
     ReplayMemory::start(heap, device)
@@ -128,109 +156,24 @@ fn prepared(heap: Global, ends: Ends) -> Result<ReplayMemory<MemoryDevice>, Allo
 fn cut(rt: &HostRuntime, name: &str, ends: Ends) -> anyhow::Result<()> {
     let mut memory = prepared(rt.alloc(), ends)?;
     print!(rt; "{name}:")?;
-    say(rt, "told", record(&mut memory, TWO, 101))?;
+    say(rt, "told", record(&mut memory, TWO, at(101)).is_ok())?;
     let memory = ReplayMemory::start(rt.alloc(), memory.into_device())?;
-    say(rt, "first", memory.stands(ONE, 101, LAG))?;
-    say(rt, "second", memory.stands(TWO, 101, LAG))?;
+    say(rt, "first", memory.stands(ONE, at(101)))?;
+    say(rt, "second", memory.stands(TWO, at(101)))?;
     say(rt, "junk", memory.junk())?;
     println!(rt; "")?;
     Ok(())
 }
 
-// One line of the table.
-fn line(
-    rt: &HostRuntime,
-    name: &str,
-    damage: Damage,
-    first: &[u8],
-    second: &[u8],
-    older: &[u8],
-) -> anyhow::Result<()> {
-    let device = damaged(rt.alloc(), damage, first, second, older)?;
-    let memory = ReplayMemory::start(rt.alloc(), device)?;
-    let outcome = outcome(&memory);
-    println!(rt; "{name}: {outcome}")?;
+// The table, a line for each damage.
+fn table(rt: &HostRuntime, copies: Copies<'_>) -> anyhow::Result<()> {
+    for (name, damage) in TABLE {
+        let device = damaged(rt.alloc(), damage, copies)?;
+        let memory = ReplayMemory::start(rt.alloc(), device)?;
+        let outcome = outcome(&memory);
+        println!(rt; "{name}: {outcome}")?;
+    }
     Ok(())
-}
-
-// The twelve damages, after none.
-fn table(rt: &HostRuntime, first: &[u8], second: &[u8], older: &[u8]) -> anyhow::Result<()> {
-    line(rt, "none", Damage::None, first, second, older)?;
-    line(
-        rt,
-        "truncated to 0 bytes",
-        Damage::Length,
-        first,
-        second,
-        older,
-    )?;
-    line(
-        rt,
-        "truncated to 7 bytes",
-        Damage::Length,
-        first,
-        second,
-        older,
-    )?;
-    line(
-        rt,
-        "truncated to 16 bytes",
-        Damage::Length,
-        first,
-        second,
-        older,
-    )?;
-    line(rt, "last 5 bytes cut", Damage::Length, first, second, older)?;
-    line(rt, "noise", Damage::Noise, first, second, older)?;
-    line(
-        rt,
-        "zeros in the newer half",
-        Damage::Zeros,
-        first,
-        second,
-        older,
-    )?;
-    line(
-        rt,
-        "a bit in the turn",
-        Damage::Bit(7),
-        first,
-        second,
-        older,
-    )?;
-    line(
-        rt,
-        "a bit in the count",
-        Damage::Bit(9),
-        first,
-        second,
-        older,
-    )?;
-    line(
-        rt,
-        "a bit in an entry",
-        Damage::Bit(12),
-        first,
-        second,
-        older,
-    )?;
-    line(
-        rt,
-        "a bit in the sum",
-        Damage::Bit(60),
-        first,
-        second,
-        older,
-    )?;
-    line(
-        rt,
-        "an older copy of the older half",
-        Damage::Older,
-        first,
-        second,
-        older,
-    )?;
-    line(rt, "the file gone", Damage::Gone, first, second, older)
 }
 
 fn main(rt: HostRuntime) -> anyhow::Result<()> {
@@ -240,18 +183,22 @@ fn main(rt: HostRuntime) -> anyhow::Result<()> {
     show(&rt, "empty half, turn 2", device.read(Which::Second), 26)?;
     let older = Vec::from_slice(rt.alloc(), device.read(Which::First))?;
     let mut memory = ReplayMemory::start(rt.alloc(), device)?;
-    record(&mut memory, ONE, 100);
-    record(&mut memory, TWO, 101);
+    let _ = record(&mut memory, ONE, at(100));
+    let _ = record(&mut memory, TWO, at(101));
     let device = memory.into_device();
     show(&rt, "one thing, turn 3", device.read(Which::First), 50)?;
-    cut(&rt, "cut, the old left", Ends::Old)?;
-    cut(&rt, "cut, the new left", Ends::New)?;
-    cut(&rt, "cut, junk left", Ends::Junk)?;
-    cut(&rt, "not cut", Ends::Done)?;
-    table(
-        &rt,
-        device.read(Which::First),
-        device.read(Which::Second),
-        older.as_slice(),
-    )
+    for (name, ends) in [
+        ("cut, the old left", Ends::Old),
+        ("cut, the new left", Ends::New),
+        ("cut, junk left", Ends::Junk),
+        ("not cut", Ends::Done),
+    ] {
+        cut(&rt, name, ends)?;
+    }
+    let copies = Copies {
+        first: device.read(Which::First),
+        second: device.read(Which::Second),
+        older: older.as_slice(),
+    };
+    table(&rt, copies)
 }

@@ -1,17 +1,16 @@
 // How the memory remembers, and how it starts.
-ghost use Rattle.std.specs.Prelude.{◌≡◌, ◌<◌, not, ◌&&◌, length, IfOk};
-ghost use Rattle.entries.specs.Beside.{beside};
-ghost use Rattle.parts.specs.declared.account.Entry.{Entry};
+ghost use Rattle.std.specs.Prelude.{◌≡◌, ◌<◌, ◌≤◌, not, ◌&&◌, length, is_ok, IfOk};
 ghost use Rattle.halves.specs.Blocks.{block};
-ghost use Rattle.replay.specs.Replay.{Begun, Moved, Notes, latest, latest_in};
+ghost use Rattle.parts.specs.declared.account.Entry.{Entry};
+ghost use Rattle.replay.specs.Replay.{Begun, Moved, Notes, Recorded, latest, latest_in};
 ghost use Rattle.service_rules.specs.Memory.{live_of};
 ghost use Rattle.std.proofs.Common.{rules};
 
 use super::ReplayMemory;
-use crate::write::{add, write_down};
-use entries::{Entries, highest_at, highest_in, live_in, load, stands_in};
+use entries::{Entries, compose, highest_at, load};
 use halves::{Device, Halves, Which, decode, part};
-use service_rules::{Memory, ROOM};
+use parts::{Clock, Entry, NotWritten};
+use service_rules::{Memory, ROOM, highest_in, live_in, remember, stands_in};
 use std::alloc::{AllocError, Global};
 
 // How many bytes a half has.
@@ -21,59 +20,69 @@ const HALF: usize = 196634;
 fn latest_in<D: Device>(device: &D, which: Which) -> u64
     ensures { result ≡ latest_in (block which (D.blocks device.now)) }
 {
-    match decode(&Entries, device.read(which)) {
-        Some(half) => highest_at(part(device.read(which), half.len)),
-        None => 0,
-    }
+    let block = device.read(which);
+    decode(&Entries, block).map_or(0, |half| highest_at(part(block, half.len)))
+}
+
+// Writes those that are not forgotten and a new one to the half whose turn it is.
+// It is no method, since the proof of one loses the length of `half` once a part of it is lent on.
+fn write_down<D: Device>(
+    halves: &mut Halves,
+    device: &mut D,
+    half: &mut [u8],
+    entries: &[Entry],
+    digest: u128,
+    clock: Clock,
+) -> Result<(), NotWritten>
+    requires { (length (live_of clock.tick clock.lag entries.now) < 8192) × (196634 ≤ length half.old) }
+    ensures { Recorded clock.tick clock.lag digest entries.now halves.old (D.blocks device.old) (is_ok result) halves.new (D.blocks device.new) }
+{
+    let end = compose(half, entries, digest, clock);
+    halves.write(device, &mut half[..end + 16])
 }
 
 impl<D: Device + Drop> ReplayMemory<D> {
     // Every start is a recovery: a device of zeros is new, and of any other the newest good half counts. Where there is no memory, the device is as it was.
     pub fn start(heap: Global, device: D) -> Result<ReplayMemory<D>, AllocError>
-        ensures { IfOk result (λ m. Begun (D.blocks device) m.halves (D.blocks m.device) (beside m.digests.items m.ticks.items) m.junk) }
+        ensures { IfOk result (λ m. Begun (D.blocks device) m.halves (D.blocks m.device) m.entries.items m.junk) }
     {
-        let mut digests = Vec::with_capacity(heap, ROOM)?;
-        let mut ticks = Vec::with_capacity(heap, ROOM)?;
+        let mut entries = Vec::with_capacity(heap, ROOM)?;
         let half = vec![in heap; 0u8; HALF]?;
         let mut device = device;
         let mut nothing = [0u8; 26];
         let halves = Halves::start(&mut device, &Entries, &mut nothing);
-        load(halves.payload(&device), &mut digests, &mut ticks);
+        load(halves.payload(&device), &mut entries);
         let junk = halves.junk;
         Ok(ReplayMemory {
             device,
             halves,
             junk,
             writes: true,
-            digests,
-            ticks,
+            entries,
             half,
         })
     }
 
     // Writes down a thing that is to be done, with those that are not forgotten; only if it is written are the old ones forgotten and it is remembered.
-    pub fn note(&mut self, digest: u128, tick: u64, lag: u64) -> bool
-        requires { length (live_of tick lag (beside self.old.digests.items self.old.ticks.items)) < 8192 }
-        ensures notes { Notes tick lag digest (beside self.old.digests.items self.old.ticks.items) self.old.halves (D.blocks self.old.device) result (beside self.new.digests.items self.new.ticks.items) self.new.halves (D.blocks self.new.device) }
-        ensures junk { self.new.junk ≡ (not result && self.old.junk) }
-        ensures writes { self.new.writes ≡ result }
+    pub fn note(&mut self, digest: u128, clock: Clock) -> Result<(), NotWritten>
+        requires { length (live_of clock.tick clock.lag self.old.entries.items) < 8192 }
+        ensures notes { Notes clock.tick clock.lag digest self.old.entries.items self.old.halves (D.blocks self.old.device) (is_ok result) self.new.entries.items self.new.halves (D.blocks self.new.device) }
+        ensures junk { self.new.junk ≡ (not (is_ok result) && self.old.junk) }
+        ensures writes { self.new.writes ≡ is_ok result }
     {
-        self.writes = write_down(
+        let written = write_down(
             &mut self.halves,
             &mut self.device,
             self.half.as_mut_slice(),
-            self.digests.as_slice(),
-            self.ticks.as_slice(),
+            self.entries.as_slice(),
             digest,
-            tick,
-            lag,
+            clock,
         );
-        if !self.writes {
-            return false;
-        }
-        add(&mut self.digests, &mut self.ticks, digest, tick, lag);
+        self.writes = written.is_ok();
+        written?;
+        remember(&mut self.entries, digest, clock);
         self.junk = false;
-        true
+        Ok(())
     }
 
     // The highest tick that either good half on the device remembers: a start at an earlier one is to be refused.
@@ -87,53 +96,39 @@ impl<D: Device + Drop> ReplayMemory<D> {
     pub fn into_device(self) -> D
         ensures { result ≡ self.device }
     {
-        let ReplayMemory {
-            device,
-            halves: _,
-            junk: _,
-            writes: _,
-            digests: _,
-            ticks: _,
-            half: _,
-        } = self;
+        let ReplayMemory { device, .. } = self;
         device
     }
 }
 
 impl<D: Device + Drop> Memory for ReplayMemory<D> {
-    ghost kept = { λ m. beside m.digests.items m.ticks.items };
+    ghost kept = { λ m. m.entries.items };
 
     ghost junk = { λ m. m.junk };
 
     ghost writes = { λ m. m.writes };
 
-    ghost keeps = { λ m n. Moved (beside m.digests.items m.ticks.items) m.halves (D.Device.blocks m.device) n.writes (beside n.digests.items n.ticks.items) n.halves (D.Device.blocks n.device) };
+    ghost keeps = { λ m n. Moved m.entries.items m.halves (D.Device.blocks m.device) n.writes n.entries.items n.halves (D.Device.blocks n.device) };
 
     ghost same = { Prim.search rules };
 
-    fn stands(&self, digest: u128, tick: u64, lag: u64) -> bool {
-        stands_in(
-            self.digests.as_slice(),
-            self.ticks.as_slice(),
-            digest,
-            tick,
-            lag,
-        )
+    fn stands(&self, digest: u128, clock: Clock) -> bool {
+        stands_in(self.entries.as_slice(), digest, clock)
     }
 
-    fn live(&self, tick: u64, lag: u64) -> usize {
-        live_in(self.digests.as_slice(), self.ticks.as_slice(), tick, lag)
+    fn live(&self, clock: Clock) -> usize {
+        live_in(self.entries.as_slice(), clock)
     }
 
     fn highest(&self) -> u64 {
-        highest_in(self.digests.as_slice(), self.ticks.as_slice())
+        highest_in(self.entries.as_slice())
     }
 
     fn junk(&self) -> bool {
         self.junk
     }
 
-    fn record(&mut self, digest: u128, tick: u64, lag: u64) -> bool {
-        self.note(digest, tick, lag)
+    fn record(&mut self, digest: u128, clock: Clock) -> Result<(), NotWritten> {
+        self.note(digest, clock)
     }
 }

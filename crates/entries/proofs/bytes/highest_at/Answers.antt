@@ -1,19 +1,14 @@
-use Rattle.entries.proofs.Packing.{highest-more}
 use Rattle.entries.proofs.bytes.highest_at.Goals as goal
-use Rattle.entries.specs.Bytes.{entries_of}
+use Rattle.entries.specs.Bytes.{entry_of}
 use Rattle.service_rules.specs.Memory.{highest}
-use Rattle.std.proofs.Common.{◌≡◌, ℕ, refl, ap, ◌∙◌, arith}
-
-pub loop-i-init : goal.loop-i-init
-unfolding entries_of
-loop-i-init c = refl
-
-pub loop-i-preserved : goal.loop-i-preserved
-loop-i-preserved c =
-    let m = highest-more c.loop-i.i c.args.bytes.now in
-    omega (arith, m, c.loop-i.invariant, c.max-top.ensures, c.tick_at.ensures)
+use Rattle.std.proofs.Common.{◌≡◌, List, ℕ, [], map, refl, ap, ◌∙◌, arith, rules}
+use Rattle.std.proofs.lemmas.Grind.{common_steps}
+use Rattle.std.proofs.lemmas.List.Recursion.{max_bounds, max_least}
 
 pub returns : goal.returns
 returns c =
-    let i : c.loop-i.i ≡ c.count_in-count.result = omega arith in
-    c.loop-i.invariant ∙ ap (λ (n : ℕ). highest (entries_of n c.args.bytes.now)) (i ∙ c.count_in-count.ensures.value)
+    let rows = c.packed_in.result.now in
+    let bounds = max_bounds (λ (xs : List (List ℕ)). highest (map entry_of xs)) (λ (x : List ℕ). (entry_of x).tick) refl (λ _ _. refl) rows in
+    let least = max_least (λ (xs : List (List ℕ)). highest (map entry_of xs)) (λ (x : List ℕ). (entry_of x).tick) refl (λ _ _. refl) rows [] c.unwrap_or.result (search rules) in
+    let top : c.unwrap_or.result ≡ highest (map entry_of rows) = grind (arith, common_steps, bounds, least) in
+    top ∙ ap highest c.packed_in.ensures.value

@@ -1,12 +1,9 @@
 use Rattle.entries.proofs.bytes.load.Given as goal
-use Rattle.entries.specs.Beside.{beside}
-use Rattle.entries.specs.Bytes.{entries_of}
-use Rattle.std.proofs.Common.{◌≡◌, ◌≤◌, vec_items, vec_len, vec_capacity}
+use Rattle.entries.specs.Bytes.{entry_of}
+use Rattle.std.proofs.Common.{◌≡◌, ◌≤◌, map, take, vec_items, vec_len, vec_capacity}
 
-abbrev pub invariant-loop-i : goal.invariant-loop-i
-invariant-loop-i l =
-    (beside (vec_items l.digests) (vec_items l.ticks) ≡ entries_of l.i l.bytes)
-    × (vec_len l.digests ≡ l.i)
-    × (vec_len l.ticks ≡ l.i)
-    × (8192 ≤ vec_capacity l.digests)
-    × (8192 ≤ vec_capacity l.ticks)
+abbrev pub invariant-loop-bytes : goal.invariant-loop-bytes
+invariant-loop-bytes l =
+    (vec_items l.entries ≡ map entry_of (take l.bytes-index l.bytes-items))
+    × (vec_len l.entries ≡ l.bytes-index)
+    × (8192 ≤ vec_capacity l.entries)
