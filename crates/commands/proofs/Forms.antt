@@ -8,15 +8,15 @@ use Rattle.std.proofs.lemmas.Bool.{eqb-true, ltb-false, cond_both}
 use Rattle.seal.specs.declared.kind.Kind.{Kind}
 use Rattle.seal.specs.declared.kind.Kind.TheVariants as kind
 use Rattle.words.specs.Laws.{bytes_text}
-use Rattle.words.specs.Text.{word_then, cut_at, decimal_of, principal_of, decimal_then, principal_then, hex_of, key_of}
+use Rattle.words.specs.Text.{word_then, cut_at, decimal_of, principal_of, decimal_then, principal_then, short_of, hex_of, key_of}
 use Rattle.words.proofs.Bytes.{bytes-exact}
 use Rattle.words.proofs.Cuts.{cut-joins}
 use Rattle.words.proofs.Exact.{exact-decimal}
 use Rattle.words.proofs.Pairs.{keys-exact}
-use Rattle.commands.specs.declared.line.Left.TheVariants as left
+use Rattle.held.specs.declared.cut.Cut.TheVariants as left
 use Rattle.commands.specs.declared.line.Place.TheVariants as place
 use Rattle.commands.specs.declared.line.Side.TheVariants as side
-use Rattle.commands.specs.Arguments.{ticket_of, ticket_then, initial_of, lettered, side_of, side_then, place_of, piece_of, piece_then, kind_of, kind_then, key_then, short_of, short_then, left_of, writes_of}
+use Rattle.commands.specs.Arguments.{ticket_of, ticket_then, initial_of, lettered, side_of, side_then, place_of, piece_of, piece_then, kind_of, kind_then, key_then, short_then, left_of, writes_of}
 use Rattle.commands.specs.Laws.{spaced, key_text, kind_text, ticket_text, side_text, place_text, piece_text, left_text, writes_text, Small, SmallTicket, SmallPiece}
 use Rattle.commands.proofs.Ifs.{If, if-then, if-each}
 
@@ -146,7 +146,7 @@ kind-then s = then-text Any kind_text kind_of kind-text s
 pub left-text : (w : List ℕ) → If (Is Any left_text w) (left_of w)
 left-text w =
     word-text Any left_text w (codes "old") left.Old _ refl
-    (word-text Any left_text w (codes "new") left.New _ refl
+    (word-text Any left_text w (codes "new") (left.New tt) _ refl
     (word-text Any left_text w (codes "junk") left.Junk None refl tt))
 
 pub writes-text : (w : List ℕ) → If (Is Any writes_text w) (writes_of w)

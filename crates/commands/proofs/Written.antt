@@ -4,7 +4,7 @@ use Rattle.std.proofs.lemmas.Bool.{eqb-true, cond_both}
 use Rattle.words.specs.Laws.{bytes_text}
 use Rattle.words.specs.Text.{and_then, cut_at, decimal_of, hex_of, key_of, decimal_then, principal_then}
 use Rattle.commands.specs.declared.line.Join.{Join}
-use Rattle.commands.specs.declared.line.Left.{Left}
+use Rattle.commands.specs.Left.{Left}
 use Rattle.commands.specs.declared.line.Opening.{Opening}
 use Rattle.commands.specs.declared.line.Settings.{Settings}
 use Rattle.commands.specs.declared.line.Side.{Side}
@@ -14,7 +14,7 @@ use Rattle.commands.specs.Arguments.{ticket_then, side_of, side_then, piece_of, 
 use Rattle.commands.specs.Grammar.{settings_of, account_of, wish_of, repeat_of, login_of, letter_of, asking_of, join_of, making_of, opening_of, cut_of, device_of, says_of, saying_of, silent, read_of}
 use Rattle.commands.specs.Laws.{spaced, key_text, kind_text, ticket_text, side_text, piece_text, left_text, writes_text, settings_text, account_text, wish_text, join_text, making_text, opening_text, line_text, Small, SmallTicket, SmallPiece, SmallJoin, Plain, LinesAreExact}
 use Rattle.commands.specs.Said as say
-use Rattle.commands.specs.Verbs.{town_verb_of, reader_verb_of, net_verb_of, key_verb_of, side_verb_of, or_else, verb_of}
+use Rattle.commands.specs.Verbs.{verb_of}
 use Rattle.commands.proofs.Forms.{Is, Begins, Any, cut-text, decimal-text, decimal-then, principal-then, short-then, key-text, key-then, bytes-text, word-text, ticket-then, side-text, side_then_lem, piece-text, piece_then_lem, kind-then, left-text, writes-text}
 use Rattle.commands.proofs.Ifs.{If, if-then, if-each, if-is}
 
@@ -162,44 +162,24 @@ verb_text verb.Device = codes "device"
 abbrev IsVerb : List ℕ → Verb → Type 0
 IsVerb w v = Is Any verb_text w v
 
-either-verb : (w : List ℕ) (o p : Option Verb) → If (IsVerb w) o → If (IsVerb w) p → If (IsVerb w) (or_else o p)
-either-verb w None p h k = k
-either-verb w (Some v) p h k = h
-
-town-verbs : (w : List ℕ) → If (IsVerb w) (town_verb_of w)
-town-verbs w =
+verb-text : (w : List ℕ) → If (IsVerb w) (verb_of w)
+verb-text w =
     word-text Any verb_text w (codes "town") verb.Town _ refl
     (word-text Any verb_text w (codes "reader") verb.Reader _ refl
     (word-text Any verb_text w (codes "service") verb.Service _ refl
-    (word-text Any verb_text w (codes "tick") verb.Tick None refl tt)))
-
-reader-verbs : (w : List ℕ) → If (IsVerb w) (reader_verb_of w)
-reader-verbs w =
-    word-text Any verb_text w (codes "want") verb.Want _ refl
-    (word-text Any verb_text w (codes "close") verb.Close None refl tt)
-
-net-verbs : (w : List ℕ) → If (IsVerb w) (net_verb_of w)
-net-verbs w =
-    word-text Any verb_text w (codes "hold") verb.Hold _ refl
+    (word-text Any verb_text w (codes "tick") verb.Tick _ refl
+    (word-text Any verb_text w (codes "want") verb.Want _ refl
+    (word-text Any verb_text w (codes "close") verb.Close _ refl
+    (word-text Any verb_text w (codes "hold") verb.Hold _ refl
     (word-text Any verb_text w (codes "repeat") verb.Repeat _ refl
     (word-text Any verb_text w (codes "join") verb.Join _ refl
-    (word-text Any verb_text w (codes "bytes") verb.Bytes None refl tt)))
-
-key-verbs : (w : List ℕ) → If (IsVerb w) (key_verb_of w)
-key-verbs w =
-    word-text Any verb_text w (codes "steal") verb.Steal _ refl
+    (word-text Any verb_text w (codes "bytes") verb.Bytes _ refl
+    (word-text Any verb_text w (codes "steal") verb.Steal _ refl
     (word-text Any verb_text w (codes "lock") verb.Lock _ refl
-    (word-text Any verb_text w (codes "unlock") verb.Unlock None refl tt))
-
-side-verbs : (w : List ℕ) → If (IsVerb w) (side_verb_of w)
-side-verbs w =
-    word-text Any verb_text w (codes "fall") verb.Fall _ refl
+    (word-text Any verb_text w (codes "unlock") verb.Unlock _ refl
+    (word-text Any verb_text w (codes "fall") verb.Fall _ refl
     (word-text Any verb_text w (codes "cut") verb.Cut _ refl
-    (word-text Any verb_text w (codes "device") verb.Device None refl tt))
-
-verb-text : (w : List ℕ) → If (IsVerb w) (verb_of w)
-verb-text w =
-    either-verb w _ _ (either-verb w _ _ (either-verb w _ _ (either-verb w _ _ (town-verbs w) (reader-verbs w)) (net-verbs w)) (key-verbs w)) (side-verbs w)
+    (word-text Any verb_text w (codes "device") verb.Device None refl tt)))))))))))))))
 
 -- the words after a verb, with the verb before them
 abbrev Says : Verb → List ℕ → say.Said → Type 0

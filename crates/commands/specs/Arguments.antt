@@ -1,14 +1,15 @@
 -- What an argument of a line says. Assumes nothing.
 --   xOf s     what the word s says
 --   xThen s   the same of the word that s begins with, and what comes after its space
-use Rattle.std.specs.Prelude.{ℕ, Bool, true, false, cond, List, length, drop, Some, None, codes, Option, ◌==◌, nat_lt, slice_index}
+use Rattle.std.specs.Prelude.{ℕ, Bool, true, false, cond, List, length, drop, Some, None, codes, Option, ◌==◌, slice_index}
 use Rattle.std.specs.Str.{bytes_eq}
+use Rattle.seal.specs.Kind.{numbered}
 use Rattle.seal.specs.declared.kind.Kind.{Kind}
 use Rattle.seal.specs.declared.kind.Kind.TheVariants as kind
-use Rattle.words.specs.declared.Key.{Key}
-use Rattle.words.specs.Text.{and_then, word_then, cut_at, decimal_of, principal_of, key_of}
-use Rattle.commands.specs.declared.line.Left.{Left}
-use Rattle.commands.specs.declared.line.Left.TheVariants as left
+use Rattle.parts.specs.declared.word.Key.{Key}
+use Rattle.words.specs.Text.{and_then, word_then, cut_at, decimal_of, principal_of, short_of, key_of}
+use Rattle.commands.specs.Left.{Left}
+use Rattle.held.specs.declared.cut.Cut.TheVariants as left
 use Rattle.commands.specs.declared.line.Piece.{Piece}
 use Rattle.commands.specs.declared.line.Place.{Place}
 use Rattle.commands.specs.declared.line.Place.TheVariants as place
@@ -56,12 +57,7 @@ piece_then s = word_then piece_of s
 
 -- the kinds of locks are 1 to 5
 abbrev pub kind_numbered : ℕ → Option Kind
-kind_numbered n =
-    cond (n == 1) (Some kind.Ticket)
-    (cond (n == 2) (Some kind.Letter)
-    (cond (n == 3) (Some kind.Asking)
-    (cond (n == 4) (Some kind.Login)
-    (cond (n == 5) (Some kind.Receipt) None))))
+kind_numbered n = numbered n
 
 abbrev pub kind_of : List ℕ → Option Kind
 kind_of s = and_then (decimal_of s) kind_numbered
@@ -72,17 +68,14 @@ kind_then s = word_then kind_of s
 abbrev pub key_then : List ℕ → Option (Key × List ℕ)
 key_then s = word_then key_of s
 
--- a number that two bytes hold
-abbrev pub short_of : List ℕ → Option ℕ
-short_of s = and_then (decimal_of s) (λ n. cond (nat_lt 65535 n) None (Some n))
-
+-- a number that two bytes hold, and what comes after
 abbrev pub short_then : List ℕ → Option (ℕ × List ℕ)
 short_then s = word_then short_of s
 
 -- what a cut write leaves
 abbrev pub left_of : List ℕ → Option Left
 left_of s = cond (bytes_eq s (codes "old")) (Some left.Old)
-    (cond (bytes_eq s (codes "new")) (Some left.New)
+    (cond (bytes_eq s (codes "new")) (Some (left.New tt))
     (cond (bytes_eq s (codes "junk")) (Some left.Junk) None))
 
 -- whether a device writes

@@ -6,7 +6,7 @@ use Rattle.words.specs.Text.{and_then, cut_at, decimal_of, hex_of, key_of, decim
 use Rattle.commands.specs.declared.line.Account.{Account}
 use Rattle.commands.specs.declared.line.Join.{Join}
 use Rattle.commands.specs.declared.line.Join.TheVariants as join
-use Rattle.commands.specs.declared.line.Left.{Left}
+use Rattle.commands.specs.Left.{Left}
 use Rattle.commands.specs.declared.line.Opening.{Opening}
 use Rattle.commands.specs.declared.line.Settings.{Settings}
 use Rattle.commands.specs.declared.line.Side.{Side}

@@ -5,13 +5,13 @@
 use Rattle.std.specs.Prelude.{◌≡◌, ℕ, ◌-◌, ◌^◌, ◌<◌, Bool, true, false, List, [], ◌∷◌, ◌++◌, Some, None, codes, decimal, Option}
 use Rattle.seal.specs.Kind.{number_of}
 use Rattle.seal.specs.declared.kind.Kind.{Kind}
-use Rattle.words.specs.declared.Key.{Key}
+use Rattle.parts.specs.declared.word.Key.{Key}
 use Rattle.words.specs.Laws.{hex_text, bytes_text}
 use Rattle.commands.specs.declared.line.Account.{Account}
 use Rattle.commands.specs.declared.line.Join.{Join}
 use Rattle.commands.specs.declared.line.Join.TheVariants as join
-use Rattle.commands.specs.declared.line.Left.{Left}
-use Rattle.commands.specs.declared.line.Left.TheVariants as left
+use Rattle.commands.specs.Left.{Left}
+use Rattle.held.specs.declared.cut.Cut.TheVariants as left
 use Rattle.commands.specs.declared.line.Opening.{Opening}
 use Rattle.commands.specs.declared.line.Piece.{Piece}
 use Rattle.commands.specs.declared.line.Place.{Place}
@@ -27,7 +27,7 @@ abbrev pub spaced : List ℕ → List ℕ → List ℕ
 spaced a b = a ++ (32 ∷ b)
 
 abbrev pub key_text : Key → List ℕ
-key_text k = hex_text k.bytes
+key_text k = hex_text k.0
 
 abbrev pub kind_text : Kind → List ℕ
 kind_text k = decimal (number_of k)
@@ -50,7 +50,7 @@ piece_text p = decimal p.word ++ (46 ∷ place_text p.place)
 
 abbrev pub left_text : Left → List ℕ
 left_text left.Old = codes "old"
-left_text left.New = codes "new"
+left_text (left.New x) = codes "new"
 left_text left.Junk = codes "junk"
 
 abbrev pub writes_text : Bool → List ℕ

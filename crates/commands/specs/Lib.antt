@@ -1,4 +1,7 @@
+pub mod Left
 pub mod Arguments
+pub mod Both
+pub mod Comes
 pub mod Grammar
 pub mod Laws
 pub mod Said

@@ -3,11 +3,11 @@
 --   said l   what the line l says, its words of hex being read as bytes
 use Rattle.std.specs.Prelude.{ℕ, Bool, List, Option}
 use Rattle.seal.specs.declared.kind.Kind.{Kind}
-use Rattle.words.specs.declared.Key.{Key}
+use Rattle.parts.specs.declared.word.Key.{Key}
 use Rattle.words.specs.Text.{bytes_of}
 use Rattle.commands.specs.declared.line.Account.{Account}
 use Rattle.commands.specs.declared.line.Join.{Join as Joined}
-use Rattle.commands.specs.declared.line.Left.{Left}
+use Rattle.commands.specs.Left.{Left}
 use Rattle.commands.specs.declared.line.Line.{Line}
 use Rattle.commands.specs.declared.line.Line.TheVariants as line
 use Rattle.commands.specs.declared.line.NewLock.{NewLock}

@@ -5,47 +5,22 @@ use Rattle.std.specs.Str.{bytes_eq}
 use Rattle.commands.specs.declared.verbs.Verb.{Verb}
 use Rattle.commands.specs.declared.verbs.Verb.TheVariants as verb
 
--- who there is, and the time
-abbrev pub town_verb_of : List ℕ → Option Verb
-town_verb_of s =
+-- who there is, and the time; what readers and the archive do; what outsiders do with words and keys; what befalls a side
+abbrev pub verb_of : List ℕ → Option Verb
+verb_of s =
     cond (bytes_eq s (codes "town")) (Some verb.Town)
     (cond (bytes_eq s (codes "reader")) (Some verb.Reader)
     (cond (bytes_eq s (codes "service")) (Some verb.Service)
-    (cond (bytes_eq s (codes "tick")) (Some verb.Tick) None)))
-
--- what readers and the archive do
-abbrev pub reader_verb_of : List ℕ → Option Verb
-reader_verb_of s =
-    cond (bytes_eq s (codes "want")) (Some verb.Want)
-    (cond (bytes_eq s (codes "close")) (Some verb.Close) None)
-
--- what outsiders do with words
-abbrev pub net_verb_of : List ℕ → Option Verb
-net_verb_of s =
-    cond (bytes_eq s (codes "hold")) (Some verb.Hold)
+    (cond (bytes_eq s (codes "tick")) (Some verb.Tick)
+    (cond (bytes_eq s (codes "want")) (Some verb.Want)
+    (cond (bytes_eq s (codes "close")) (Some verb.Close)
+    (cond (bytes_eq s (codes "hold")) (Some verb.Hold)
     (cond (bytes_eq s (codes "repeat")) (Some verb.Repeat)
     (cond (bytes_eq s (codes "join")) (Some verb.Join)
-    (cond (bytes_eq s (codes "bytes")) (Some verb.Bytes) None)))
-
--- what outsiders do with keys
-abbrev pub key_verb_of : List ℕ → Option Verb
-key_verb_of s =
-    cond (bytes_eq s (codes "steal")) (Some verb.Steal)
+    (cond (bytes_eq s (codes "bytes")) (Some verb.Bytes)
+    (cond (bytes_eq s (codes "steal")) (Some verb.Steal)
     (cond (bytes_eq s (codes "lock")) (Some verb.Lock)
-    (cond (bytes_eq s (codes "unlock")) (Some verb.Unlock) None))
-
--- what befalls a side
-abbrev pub side_verb_of : List ℕ → Option Verb
-side_verb_of s =
-    cond (bytes_eq s (codes "fall")) (Some verb.Fall)
+    (cond (bytes_eq s (codes "unlock")) (Some verb.Unlock)
+    (cond (bytes_eq s (codes "fall")) (Some verb.Fall)
     (cond (bytes_eq s (codes "cut")) (Some verb.Cut)
-    (cond (bytes_eq s (codes "device")) (Some verb.Device) None))
-
--- the one, or else the other
-abbrev pub or_else : {A : Type 0} → Option A → Option A → Option A
-or_else None o = o
-or_else (Some x) o = Some x
-
-abbrev pub verb_of : List ℕ → Option Verb
-verb_of s =
-    or_else (or_else (or_else (or_else (town_verb_of s) (reader_verb_of s)) (net_verb_of s)) (key_verb_of s)) (side_verb_of s)
+    (cond (bytes_eq s (codes "device")) (Some verb.Device) None)))))))))))))))

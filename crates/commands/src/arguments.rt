@@ -1,38 +1,37 @@
-// The arguments of a line, each a word, or a word and a space with what comes after.
+// The words that stand in a line as its arguments.
 ghost use Rattle.std.specs.Prelude.{◌≡◌, Some, None};
-ghost use Rattle.commands.specs.Arguments.{ticket_of, ticket_then, initial_of, lettered, side_of, side_then, place_of, piece_of, piece_then, kind_numbered, kind_of, kind_then, key_then, short_of, short_then, left_of, writes_of};
+ghost use Rattle.commands.specs.Arguments.{ticket_of, lettered, side_of, place_of, piece_of, kind_of, left_of, writes_of};
+ghost use Rattle.commands.specs.Both.{NotBoth, AreBoth};
 
-use crate::line::{Left, Piece, Place, Side};
+use crate::line::{Piece, Place, Side};
+use held::Cut;
 use seal::Kind;
-use words::{Key, as_key, cut, decimal, principal, same};
+use words::{cut, decimal, next, principal};
+
+// Two arguments with a space between them, each as its reader reads it.
+pub fn both<A: Drop, B, F: FnOnce(&[u8]) -> Option<A>, G: FnOnce(&[u8]) -> Option<B>>(
+    text: &[u8],
+    first: F,
+    second: G,
+) -> Option<(A, B)>
+    requires first { F.IsAlwaysCallable first }
+    requires second { G.IsAlwaysCallable second }
+    ensures { elim result [ None ↦ NotBoth F.FnOnce G.FnOnce first second text.now | Some p ↦ AreBoth F.FnOnce G.FnOnce first second text.now p.0 p.1 ] }
+{
+    let (a, rest) = next(text, first)?;
+    let b = second(rest)?;
+    Some((a, b))
+}
 
 // A ticket's id, or `none`.
-fn read_ticket(word: &[u8]) -> Option<Option<u64>>
+// Two Options: a word that can't be read, and a line that names no ticket.
+pub fn read_ticket(word: &[u8]) -> Option<Option<u64>>
     ensures { result ≡ ticket_of word.now }
 {
-    if same(word, b"none") {
-        return Some(None);
+    match word {
+        b"none" => Some(None),
+        _ => decimal(word).map(Some),
     }
-    let id = decimal(word)?;
-    Some(Some(id))
-}
-
-pub fn next_ticket(text: &[u8]) -> Option<(Option<u64>, &[u8])>
-    ensures { elim result [ None ↦ ticket_then text.now ≡ None | Some p ↦ ticket_then text.now ≡ Some (p.0, p.1.now) ] }
-{
-    let (word, rest) = cut(text, b' ')?;
-    let by = read_ticket(word)?;
-    Some((by, rest))
-}
-
-// The first byte of a word, and the others.
-fn initial(word: &[u8]) -> Option<(u8, &[u8])>
-    ensures { elim result [ None ↦ initial_of word.now ≡ None | Some p ↦ initial_of word.now ≡ Some (p.0, p.1.now) ] }
-{
-    if word.is_empty() {
-        return None;
-    }
-    Some((word[0], &word[1..]))
 }
 
 // The service or the reader's box of that number.
@@ -50,131 +49,60 @@ fn lettered_side(letter: u8, number: u16) -> Option<Side>
 pub fn read_side(word: &[u8]) -> Option<Side>
     ensures { result ≡ side_of word.now }
 {
-    if same(word, b"house") {
-        return Some(Side::House);
+    match word {
+        b"house" => Some(Side::House),
+        [letter, digits @ ..] => lettered_side(*letter, principal(digits)?),
+        [] => None,
     }
-    let (letter, digits) = initial(word)?;
-    let number = principal(digits)?;
-    lettered_side(letter, number)
-}
-
-pub fn next_side(text: &[u8]) -> Option<(Side, &[u8])>
-    ensures { elim result [ None ↦ side_then text.now ≡ None | Some p ↦ side_then text.now ≡ Some (p.0, p.1.now) ] }
-{
-    let (word, rest) = cut(text, b' ')?;
-    let at = read_side(word)?;
-    Some((at, rest))
 }
 
 // 1 or 2.
 fn read_place(word: &[u8]) -> Option<Place>
     ensures { result ≡ place_of word.now }
 {
-    if same(word, b"1") {
-        return Some(Place::First);
-    }
-    if same(word, b"2") {
-        return Some(Place::Second);
-    }
-    None
-}
-
-// W.I: a word's number, a dot, and which of its locks.
-pub fn read_piece(word: &[u8]) -> Option<Piece>
-    ensures { result ≡ piece_of word.now }
-{
-    let (number, which) = cut(word, b'.')?;
-    let number = decimal(number)?;
-    let at = read_place(which)?;
-    Some(Piece {
-        word: number,
-        place: at,
-    })
-}
-
-pub fn next_piece(text: &[u8]) -> Option<(Piece, &[u8])>
-    ensures { elim result [ None ↦ piece_then text.now ≡ None | Some p ↦ piece_then text.now ≡ Some (p.0, p.1.now) ] }
-{
-    let (word, rest) = cut(text, b' ')?;
-    let lock = read_piece(word)?;
-    Some((lock, rest))
-}
-
-// The kind of locks with that number.
-fn kind_numbered(number: u64) -> Option<Kind>
-    ensures { result ≡ kind_numbered number }
-{
-    match number {
-        1 => Some(Kind::Ticket),
-        2 => Some(Kind::Letter),
-        3 => Some(Kind::Asking),
-        4 => Some(Kind::Login),
-        5 => Some(Kind::Receipt),
+    match word {
+        b"1" => Some(Place::First),
+        b"2" => Some(Place::Second),
         _ => None,
     }
 }
 
-pub fn next_kind(text: &[u8]) -> Option<(Kind, &[u8])>
-    ensures { elim result [ None ↦ kind_then text.now ≡ None | Some p ↦ kind_then text.now ≡ Some (p.0, p.1.now) ] }
+// W.I: a word's number, a dot, and which of its locks.
+pub fn read_piece(text: &[u8]) -> Option<Piece>
+    ensures { result ≡ piece_of text.now }
 {
-    let (word, rest) = cut(text, b' ')?;
-    let number = decimal(word)?;
-    let kind = kind_numbered(number)?;
-    Some((kind, rest))
+    let (number, which) = cut(text, b'.')?;
+    let word = decimal(number)?;
+    let place = read_place(which)?;
+    Some(Piece { word, place })
 }
 
-pub fn next_key(text: &[u8]) -> Option<(Key, &[u8])>
-    ensures { elim result [ None ↦ key_then text.now ≡ None | Some p ↦ key_then text.now ≡ Some (p.0, p.1.now) ] }
+// The number of a kind of locks.
+pub fn read_kind(word: &[u8]) -> Option<Kind>
+    ensures { result ≡ kind_of word.now }
 {
-    let (word, rest) = cut(text, b' ')?;
-    let key = as_key(word)?;
-    Some((key, rest))
-}
-
-// A number that two bytes can hold.
-fn read_short(word: &[u8]) -> Option<u16>
-    ensures { result ≡ short_of word.now }
-{
-    let n = decimal(word)?;
-    if n > 65_535 {
-        return None;
-    }
-    Some(n as u16)
-}
-
-pub fn next_short(text: &[u8]) -> Option<(u16, &[u8])>
-    ensures { elim result [ None ↦ short_then text.now ≡ None | Some p ↦ short_then text.now ≡ Some (p.0, p.1.now) ] }
-{
-    let (word, rest) = cut(text, b' ')?;
-    let n = read_short(word)?;
-    Some((n, rest))
+    Kind::try_from(decimal(word)?).ok()
 }
 
 // `old`, `new` or `junk`.
-pub fn read_left(word: &[u8]) -> Option<Left>
+pub fn read_left(word: &[u8]) -> Option<Cut<()>>
     ensures { result ≡ left_of word.now }
 {
-    if same(word, b"old") {
-        return Some(Left::Old);
+    match word {
+        b"old" => Some(Cut::Old),
+        b"new" => Some(Cut::New(())),
+        b"junk" => Some(Cut::Junk),
+        _ => None,
     }
-    if same(word, b"new") {
-        return Some(Left::New);
-    }
-    if same(word, b"junk") {
-        return Some(Left::Junk);
-    }
-    None
 }
 
 // `ok` or `fail`: whether a device writes.
 pub fn read_writes(word: &[u8]) -> Option<bool>
     ensures { result ≡ writes_of word.now }
 {
-    if same(word, b"ok") {
-        return Some(true);
+    match word {
+        b"ok" => Some(true),
+        b"fail" => Some(false),
+        _ => None,
     }
-    if same(word, b"fail") {
-        return Some(false);
-    }
-    None
 }

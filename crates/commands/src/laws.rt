@@ -2,8 +2,6 @@
 ghost use Rattle.commands.specs.Laws.{LinesAreExact};
 
 // A line is read from the text that writes it, and from no other.
-pub fn lines_are_exact() -> u8
+pub fn lines_are_exact()
     ensures { LinesAreExact }
-{
-    0
-}
+{}

@@ -1,6 +1,7 @@
 // What a line of a script says. The bytes that it gives stay in its text, in hex.
+use held::Cut;
+use parts::Key;
 use seal::Kind;
-use words::Key;
 
 // What a town starts with.
 #[derive(Clone, Copy)]
@@ -36,6 +37,7 @@ pub struct Want<'a> {
 }
 
 // Which lock of its word.
+// Not a half of a device: which lock of a word a line names.
 #[derive(Clone, Copy)]
 pub enum Place {
     First,
@@ -76,14 +78,7 @@ pub struct Opening {
     pub key: Key,
 }
 
-// What a cut write leaves.
-#[derive(Clone, Copy)]
-pub enum Left {
-    Old,
-    New,
-    Junk,
-}
-
+// What a line says.
 #[derive(Clone, Copy)]
 pub enum Line<'a> {
     // An empty line or a comment.
@@ -116,8 +111,9 @@ pub enum Line<'a> {
     Bytes(&'a [u8]),
     // fall SIDE
     Fall(Side),
-    // cut SIDE old, new or junk
-    Cut { side: Side, left: Left },
+    // cut SIDE and what the cut write leaves: old, new or junk
+    Cut { side: Side, left: Cut<()> },
     // device SIDE ok or fail
+    // A flag, for `ok` or `fail`: neither of the two says anything more.
     Device { side: Side, writes: bool },
 }

@@ -1,15 +1,16 @@
 // The lines of a script: how a text is cut into lines, and what one says.
 ghost use Rattle.std.specs.Prelude.{◌≡◌, ◌<◌, length, Some, None};
-ghost use Rattle.commands.specs.Grammar.{line_of, rest_of, settings_of, account_of, wish_of, repeat_of, join_of, login_of, letter_of, asking_of, making_of, opening_of, cut_of, device_of, saying_of, silent, read_of};
+ghost use Rattle.commands.specs.Grammar.{line_of, rest_of, settings_of, account_of, wish_of, join_of, making_of, opening_of, saying_of, silent, read_of};
+ghost use Rattle.std.specs.Iterator.{at_most};
+ghost use Rattle.commands.specs.Comes.{LineComes};
 ghost use Rattle.commands.specs.Said.{said, wished, making};
 
 use crate::arguments::{
-    next_key, next_kind, next_piece, next_short, next_side, next_ticket, read_left, read_piece,
-    read_side, read_writes,
+    both, read_kind, read_left, read_piece, read_side, read_ticket, read_writes,
 };
-use crate::line::{Account, Join, Left, Line, NewLock, Opening, Settings, Side, Want};
+use crate::line::{Account, Join, Line, NewLock, Opening, Settings, Side, Want};
 use crate::verbs::{Verb, read_verb};
-use words::{as_key, cut, decimal, hex_word, next_decimal, next_principal, same};
+use words::{as_key, cut, decimal, hex_word, next, principal, short};
 
 // A line of more bytes can't be read.
 const MAX_LINE: usize = 1_048_576;
@@ -23,6 +24,38 @@ pub fn first_line(text: &[u8]) -> (&[u8], &[u8])
     match cut(text, b'\n') {
         Some((line, rest)) => (line, rest),
         None => (text, &text[text.len()..]),
+    }
+}
+
+// The lines of a text, from the first on.
+#[derive(Drop)]
+pub struct Lines<'a> {
+    rest: &'a [u8],
+}
+
+impl<'a> Lines<'a> {
+    // All lines of a text.
+    pub fn new(text: &'a [u8]) -> Lines<'a>
+        ensures { result.rest.now ≡ text.now }
+    {
+        Lines { rest: text }
+    }
+}
+
+impl<'a> Iterator for Lines<'a> {
+    type Item = &'a [u8];
+
+    ghost next_gives = { λ s r t. LineComes s.rest.now r t.rest.now };
+
+    ghost remaining = { λ s. at_most (length s.rest.now) };
+
+    fn next(&mut self) -> Option<&'a [u8]> {
+        if self.rest.is_empty() {
+            return None;
+        }
+        let (line, rest) = first_line(self.rest);
+        self.rest = rest;
+        Some(line)
     }
 }
 
@@ -43,7 +76,7 @@ pub fn read(line: &[u8]) -> Option<Line>
 fn is_silent(line: &[u8]) -> bool
     ensures { result ≡ silent line.now }
 {
-    line.is_empty() || line[0] == b'#'
+    matches!(line, [] | [b'#', ..])
 }
 
 // What a line says that is neither empty nor a comment.
@@ -60,7 +93,7 @@ fn saying(line: &[u8]) -> Option<Line>
         Verb::Close => Some(Line::Close(decimal(rest)?)),
         Verb::Hold => Some(Line::Hold(decimal(rest)?)),
         Verb::Repeat => {
-            let (word, side) = read_repeat(rest)?;
+            let (word, side) = both(rest, decimal, read_side)?;
             Some(Line::Repeat { word, side })
         }
         Verb::Join => Some(Line::Join(read_join(rest)?)),
@@ -70,11 +103,11 @@ fn saying(line: &[u8]) -> Option<Line>
         Verb::Bytes => Some(Line::Bytes(hex_word(rest)?)),
         Verb::Fall => Some(Line::Fall(read_side(rest)?)),
         Verb::Cut => {
-            let (side, left) = read_cut(rest)?;
+            let (side, left) = both(rest, read_side, read_left)?;
             Some(Line::Cut { side, left })
         }
         Verb::Device => {
-            let (side, writes) = read_device(rest)?;
+            let (side, writes) = both(rest, read_side, read_writes)?;
             Some(Line::Device { side, writes })
         }
     }
@@ -84,9 +117,9 @@ fn saying(line: &[u8]) -> Option<Line>
 fn read_settings(text: &[u8]) -> Option<Settings>
     ensures { result ≡ settings_of text.now }
 {
-    let (tick, rest) = next_decimal(text)?;
-    let (life, rest) = next_decimal(rest)?;
-    let (lag, rest) = next_decimal(rest)?;
+    let (tick, rest) = next(text, decimal)?;
+    let (life, rest) = next(rest, decimal)?;
+    let (lag, rest) = next(rest, decimal)?;
     let seed = as_key(rest)?;
     Some(Settings {
         tick,
@@ -100,8 +133,7 @@ fn read_settings(text: &[u8]) -> Option<Settings>
 fn read_account(text: &[u8]) -> Option<Account>
     ensures { result ≡ account_of text.now }
 {
-    let (number, rest) = next_principal(text)?;
-    let key = as_key(rest)?;
+    let (number, key) = both(text, principal, as_key)?;
     Some(Account { number, key })
 }
 
@@ -109,9 +141,9 @@ fn read_account(text: &[u8]) -> Option<Account>
 fn read_want(text: &[u8]) -> Option<Want>
     ensures { elim result [ None ↦ wish_of text.now ≡ None | Some w ↦ wish_of text.now ≡ Some (wished w) ] }
 {
-    let (reader, rest) = next_decimal(text)?;
-    let (service, rest) = next_decimal(rest)?;
-    let (ticket, rest) = next_ticket(rest)?;
+    let (reader, rest) = next(text, decimal)?;
+    let (service, rest) = next(rest, decimal)?;
+    let (ticket, rest) = next(rest, read_ticket)?;
     let what = hex_word(rest)?;
     Some(Want {
         reader,
@@ -121,61 +153,34 @@ fn read_want(text: &[u8]) -> Option<Want>
     })
 }
 
-// W SIDE
-fn read_repeat(text: &[u8]) -> Option<(u64, Side)>
-    ensures { result ≡ repeat_of text.now }
-{
-    let (word, rest) = next_decimal(text)?;
-    let at = read_side(rest)?;
-    Some((word, at))
-}
-
-// KIND and what a word of that kind is made of
+// KIND and what a word of that kind is made of: READER W.I of a login, else two locks W.I. The numbers are the script's.
 fn read_join(text: &[u8]) -> Option<Join>
     ensures { result ≡ join_of text.now }
 {
-    let (kind, rest) = next_decimal(text)?;
+    let (kind, rest) = next(text, decimal)?;
     match kind {
-        1 => join_login(rest),
-        2 => join_letter(rest),
-        3 => join_asking(rest),
+        1 => {
+            let (reader, lock) = both(rest, short, read_piece)?;
+            Some(Join::Login { reader, lock })
+        }
+        2 => {
+            let (ticket, letter) = both(rest, read_piece, read_piece)?;
+            Some(Join::Letter { ticket, letter })
+        }
+        3 => {
+            let (ticket, asking) = both(rest, read_piece, read_piece)?;
+            Some(Join::Asking { ticket, asking })
+        }
         _ => None,
     }
-}
-
-// READER W.I
-fn join_login(text: &[u8]) -> Option<Join>
-    ensures { result ≡ login_of text.now }
-{
-    let (reader, rest) = next_short(text)?;
-    let lock = read_piece(rest)?;
-    Some(Join::Login { reader, lock })
-}
-
-// W.I W.J
-fn join_letter(text: &[u8]) -> Option<Join>
-    ensures { result ≡ letter_of text.now }
-{
-    let (ticket, rest) = next_piece(text)?;
-    let letter = read_piece(rest)?;
-    Some(Join::Letter { ticket, letter })
-}
-
-// W.I W.J
-fn join_asking(text: &[u8]) -> Option<Join>
-    ensures { result ≡ asking_of text.now }
-{
-    let (ticket, rest) = next_piece(text)?;
-    let asking = read_piece(rest)?;
-    Some(Join::Asking { ticket, asking })
 }
 
 // KIND KEY INSIDE
 fn read_lock(text: &[u8]) -> Option<NewLock>
     ensures { elim result [ None ↦ making_of text.now ≡ None | Some m ↦ making_of text.now ≡ Some (making m) ] }
 {
-    let (kind, rest) = next_kind(text)?;
-    let (key, rest) = next_key(rest)?;
+    let (kind, rest) = next(text, read_kind)?;
+    let (key, rest) = next(rest, as_key)?;
     let inside = hex_word(rest)?;
     Some(NewLock { kind, key, inside })
 }
@@ -184,26 +189,8 @@ fn read_lock(text: &[u8]) -> Option<NewLock>
 fn read_opening(text: &[u8]) -> Option<Opening>
     ensures { result ≡ opening_of text.now }
 {
-    let (lock, rest) = next_piece(text)?;
-    let (kind, rest) = next_kind(rest)?;
+    let (lock, rest) = next(text, read_piece)?;
+    let (kind, rest) = next(rest, read_kind)?;
     let key = as_key(rest)?;
     Some(Opening { lock, kind, key })
-}
-
-// SIDE and what the cut write leaves
-fn read_cut(text: &[u8]) -> Option<(Side, Left)>
-    ensures { result ≡ cut_of text.now }
-{
-    let (at, rest) = next_side(text)?;
-    let after = read_left(rest)?;
-    Some((at, after))
-}
-
-// SIDE and whether its device writes
-fn read_device(text: &[u8]) -> Option<(Side, bool)>
-    ensures { result ≡ device_of text.now }
-{
-    let (at, rest) = next_side(text)?;
-    let writes = read_writes(rest)?;
-    Some((at, writes))
 }

@@ -3,15 +3,13 @@
 
 mod shown;
 
-use commands::lines::first_line;
+use commands::lines::Lines;
 use shown::answer;
 use std::io::Read;
 
+// Prints what each line of a text says.
 fn print_all(rt: &HostRuntime, text: &[u8]) -> anyhow::Result<()> {
-    let mut rest = text;
-    while !rest.is_empty() {
-        let (line, after) = first_line(rest);
-        rest = after;
+    for line in Lines::new(text) {
         let out = answer(rt.alloc(), line)?;
         println!(rt; "{out}")?;
     }

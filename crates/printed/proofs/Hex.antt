@@ -1,15 +1,20 @@
--- Hex of bytes, one after the other.
-use Rattle.std.proofs.Common.{◌≡◌, ℕ, ◌+◌, ◌/◌, ◌%◌, ◌<◌, List, [], ◌∷◌, ◌++◌, length, get_or, take, sym, refl, ap, ◌∙◌, append_assoc}
-use Rattle.std.proofs.lemmas.List.{take_more}
-use Rattle.words.specs.Laws.{hex_text}
-use Rattle.words.specs.Laws.{digit_of}
+-- The hex of the kit's crate is that of the words of a line.
+use Rattle.std.proofs.Common.{◌≡◌, ℕ, suc, false, eqb, true≢false, length, ◌/◌, ◌%◌, ◌<◌, List, [], ◌∷◌, get_or, slice_index, refl, arith}
+use Rattle.std.proofs.lemmas.List.FromFn.{get_or-map-range_with_len}
+use Rattle.hex.specs.Hex.{encode_with, lower_digits}
+use Rattle.words.specs.Laws.{digit_of, hex_text, bytes_text}
 
-pub hex_text-++ : (xs ys : List ℕ) → hex_text (xs ++ ys) ≡ hex_text xs ++ hex_text ys
-hex_text-++ [] ys = refl
-hex_text-++ (x ∷ xs) ys = ap (λ t. digit_of (x / 16) ∷ digit_of (x % 16) ∷ t) (hex_text-++ xs ys)
+digit-same : (n : ℕ) → n < 16 → slice_index lower_digits n ≡ digit_of n
+digit-same n h = get_or-map-range_with_len digit_of 0 16 n n 0 h (omega arith)
 
--- one byte more
-pub hex-more : (a s t bs : List ℕ) (i b : ℕ) → i < length bs → get_or bs i 0 ≡ b → s ≡ a ++ hex_text (take i bs) → t ≡ s ++ hex_text (b ∷ []) → t ≡ a ++ hex_text (take (i + 1) bs)
-hex-more a s t bs i b h e x y =
-    y ∙ ap (λ z. z ++ hex_text (b ∷ [])) x ∙ append_assoc a (hex_text (take i bs)) (hex_text (b ∷ []))
-    ∙ ap (λ z. a ++ z) (sym (hex_text-++ (take i bs) (b ∷ [])) ∙ ap hex_text (ap (λ z. take i bs ++ z ∷ []) (sym e) ∙ sym (take_more bs i 0 h)))
+encode-text : (bytes : List ℕ) → ((i : ℕ) → get_or bytes i 0 < 256) → encode_with lower_digits bytes ≡ hex_text bytes
+unfolding encode_with
+encode-text [] h = refl
+encode-text (b ∷ bytes) h =
+    let byte : b < 256 = h 0 in
+    (λ i. digit-same (b / 16) (omega arith) i ∷ digit-same (b % 16) (omega arith) i ∷ encode-text bytes (λ k. h (suc k)) i)
+
+-- and so of one byte or more
+pub encode-bytes : (bytes : List ℕ) → ((i : ℕ) → get_or bytes i 0 < 256) → eqb (length bytes) 0 ≡ false → encode_with lower_digits bytes ≡ bytes_text bytes
+encode-bytes [] h some = absurd (true≢false some)
+encode-bytes (b ∷ bytes) h some = encode-text (b ∷ bytes) h

@@ -1,4 +1,4 @@
-// Text that is printed, written word by word: bytes as they are, decimals, and hex.
+// Text that is printed, written word by word: bytes as they are, what a value displays, and hex.
 #![tactic(auto)]
 
 mod text;

@@ -1,9 +1,7 @@
 // Text under way.
-use std::alloc::Global;
 
-// The bytes of a text so far.
+// The bytes of a text so far. They are no `String`, since words of a script are printed as they stand.
 #[derive(Drop)]
 pub struct Text {
-    pub(crate) heap: Global,
     pub(crate) bytes: Vec<u8>,
 }

@@ -1,4 +1,1 @@
-pub mod Ifs
-pub mod Order
-pub mod Roll
-pub mod Written
+mod Order

@@ -3,17 +3,19 @@ use Rattle.std.proofs.Common.{◌≡◌, ℕ, ◌+◌, ◌^◌, ◌<◌, ◌≤�
 use Rattle.std.proofs.lemmas.List.Sums.{sum_by-cons, sum_by_push}
 use Rattle.std.proofs.lemmas.Bool.Decides.{nat_tests}
 use Rattle.std.proofs.lemmas.Bool.{eqb-true, eqb-false, ltb-false, leb-false, cond_both, cases_Bool, or_parts}
-use Rattle.script.specs.declared.lines.Account.{Account}
-use Rattle.script.specs.declared.lines.Line.{Line}
-use Rattle.script.specs.declared.lines.Line.TheVariants as line
-use Rattle.script.specs.declared.lines.Settings.{Settings}
-use Rattle.script.specs.declared.lines.Verb.{Verb}
-use Rattle.script.specs.declared.lines.Verb.TheVariants as verb
+use Rattle.commands.specs.declared.line.Account.{Account}
+use Rattle.commands.specs.declared.line.Settings.{Settings}
+use Rattle.commands.specs.declared.verbs.Verb.{Verb}
+use Rattle.commands.specs.declared.verbs.Verb.TheVariants as verb
+use Rattle.commands.specs.Said as say
 use Rattle.script.specs.declared.town.Answer.TheVariants as answers
-use Rattle.words.specs.Text.{cut_at, decimal_of, principal_of, principal_then, key_of}
-use Rattle.script.specs.Grammar.{account_of, settings_of, verb_of, says_of, saying_of, silent, read_of}
-use Rattle.script.specs.Play.{Seen, Outcome, nobody, there, known, opened, with_reader, with_service, ticked, begun, acted, heard, in_range}
-use Rattle.script.proofs.Ifs.{If, if-any, if-then}
+use Rattle.words.specs.Text.{cut_at, decimal_of, principal_of, principal_then, hex_of, key_of, and_then}
+use Rattle.commands.specs.Grammar.{account_of, settings_of, wish_of, repeat_of, join_of, making_of, opening_of, cut_of, device_of, says_of, saying_of, silent, read_of}
+use Rattle.commands.specs.Arguments.{side_of}
+use Rattle.commands.specs.Verbs.{verb_of}
+use Rattle.script.specs.Play.{Seen, Outcome, nobody, known, opened, with_reader, with_service, ticked, begun, acted, heard, in_range}
+use Rattle.script.specs.There.{there}
+use Rattle.commands.proofs.Ifs.{If, if-any, if-then}
 use Rattle.script.specs.Laws.{with_number, holders, Orderly, StaysOrderly, FaultsChangeNothing, TimeGoesOn, after, TownsAreOrderly}
 
 -- What is read: a number of 1 to 1,023.
@@ -21,12 +23,10 @@ use Rattle.script.specs.Laws.{with_number, holders, Orderly, StaysOrderly, Fault
 abbrev Good : Account → Type 0
 Good a = (1 ≤ a.number) × (a.number ≤ 1023)
 
-abbrev GoodLine : Line → Type 0
-GoodLine line.Blank = Unit {0}
-GoodLine (line.Town x) = Unit {0}
-GoodLine (line.Reader a) = Good a
-GoodLine (line.Service a) = Good a
-GoodLine (line.Tick t) = Unit {0}
+abbrev GoodLine : say.Said → Type 0
+GoodLine (say.Reader a) = Good a
+GoodLine (say.Service a) = Good a
+GoodLine _ = Unit {0}
 
 good-principal : (s : List ℕ) → If (λ n. (1 ≤ n) × (n ≤ 1023)) (principal_of s)
 good-principal s =
@@ -40,16 +40,32 @@ good-account s =
     (λ p _. if-then (λ n. (1 ≤ n) × (n ≤ 1023)) (λ q. (1 ≤ q.0) × (q.0 ≤ 1023)) (principal_of p.0) _ (good-principal p.0) (λ x h. h)))
     (λ n h. if-then (λ _. Unit {0}) Good (key_of n.1) _ (if-any (key_of n.1)) (λ k _. h))
 
+-- a line that names nobody
+names-nobody : {A : Type 0} (o : Option A) (line : A → say.Said) → ((x : A) → GoodLine (line x)) → If GoodLine (and_then o (λ x. Some (line x)))
+names-nobody o line h = if-then (λ _. Unit {0}) GoodLine o _ (if-any o) (λ x _. h x)
+
 good-says : (v : Verb) (s : List ℕ) → If GoodLine (says_of v s)
-good-says verb.Town s = if-then (λ _. Unit {0}) GoodLine (settings_of s) _ (if-any (settings_of s)) (λ x _. tt)
 good-says verb.Reader s = if-then Good GoodLine (account_of s) _ (good-account s) (λ x h. h)
 good-says verb.Service s = if-then Good GoodLine (account_of s) _ (good-account s) (λ x h. h)
-good-says verb.Tick s = if-then (λ _. Unit {0}) GoodLine (decimal_of s) _ (if-any (decimal_of s)) (λ x _. tt)
+good-says verb.Town s = names-nobody (settings_of s) (λ x. say.Town x) (λ x. tt)
+good-says verb.Tick s = names-nobody (decimal_of s) (λ x. say.Tick x) (λ x. tt)
+good-says verb.Want s = names-nobody (wish_of s) (λ x. say.Want x) (λ x. tt)
+good-says verb.Close s = names-nobody (decimal_of s) (λ x. say.Close x) (λ x. tt)
+good-says verb.Hold s = names-nobody (decimal_of s) (λ x. say.Hold x) (λ x. tt)
+good-says verb.Repeat s = names-nobody (repeat_of s) (λ x. say.Repeat x.0 x.1) (λ x. tt)
+good-says verb.Join s = names-nobody (join_of s) (λ x. say.Join x) (λ x. tt)
+good-says verb.Steal s = names-nobody (decimal_of s) (λ x. say.Steal x) (λ x. tt)
+good-says verb.Lock s = names-nobody (making_of s) (λ x. say.Lock x) (λ x. tt)
+good-says verb.Unlock s = names-nobody (opening_of s) (λ x. say.Unlock x) (λ x. tt)
+good-says verb.Bytes s = names-nobody (hex_of s) (λ x. say.Bytes x) (λ x. tt)
+good-says verb.Fall s = names-nobody (side_of s) (λ x. say.Fall x) (λ x. tt)
+good-says verb.Cut s = names-nobody (cut_of s) (λ x. say.Cut x.0 x.1) (λ x. tt)
+good-says verb.Device s = names-nobody (device_of s) (λ x. say.Device x.0 x.1) (λ x. tt)
 
 good-line : (s : List ℕ) → If GoodLine (read_of s)
 good-line s =
-    cond_both (ltb 1048576 (length s)) None (cond (silent s) (Some line.Blank) (saying_of s)) (If GoodLine) (λ _. tt)
-    (λ _. cond_both (silent s) (Some line.Blank) (saying_of s) (If GoodLine) (λ _. tt)
+    cond_both (ltb 1048576 (length s)) None (cond (silent s) (Some say.Blank) (saying_of s)) (If GoodLine) (λ _. tt)
+    (λ _. cond_both (silent s) (Some say.Blank) (saying_of s) (If GoodLine) (λ _. tt)
     (λ _. if-then (λ _. Unit {0}) GoodLine (cut_at 32 s) _ (if-any (cut_at 32 s))
     (λ p _. if-then (λ _. Unit {0}) GoodLine (verb_of p.0) _ (if-any (verb_of p.0)) (λ v _. good-says v p.1))))
 
@@ -59,7 +75,6 @@ abbrev mark : Bool → ℕ
 mark b = cond b 1 0
 
 there-count : (n : ℕ) (l : List Account) → there n l ≡ false → with_number n l ≡ 0
-unfolding there
 there-count n [] h = refl
 there-count n (a ∷ l) h =
     let parts = or_parts (eqb a.number n) (there n l) h in
@@ -189,67 +204,61 @@ kept-tick s t = cond_both (ltb t s.tick || leb (2 ^ 63) t) _ _ (Kept s) (λ _ _.
 
 -- A line, before the town is there and after.
 
-split : (P : Outcome → Type 0) (s : Seen) (l : Line) (o : Option Settings) → s.settings ≡ o → (s.settings ≡ None → P (begun s l)) → ((s.settings ≡ None → ⊥) → P (acted s l)) → P (elim o [ None ↦ begun s l | Some x ↦ acted s l ])
+split : (P : Outcome → Type 0) (s : Seen) (l : say.Said) (o : Option Settings) → s.settings ≡ o → (s.settings ≡ None → P (begun s l)) → ((s.settings ≡ None → ⊥) → P (acted s l)) → P (elim o [ None ↦ begun s l | Some x ↦ acted s l ])
 split P s l None e p q = p e
 split P s l (Some x) e p q = q (λ n. never-none (sym e ∙ n))
 
-orderly-begun : (s : Seen) (l : Line) → Orderly s → Orderly (begun s l).town
-orderly-begun s line.Blank h = h
-orderly-begun s (line.Town x) h = orderly-open s x h
-orderly-begun s (line.Reader a) h = h
-orderly-begun s (line.Service a) h = h
-orderly-begun s (line.Tick t) h = h
+orderly-begun : (s : Seen) (l : say.Said) → Orderly s → Orderly (begun s l).town
+orderly-begun s say.Blank h = h
+orderly-begun s (say.Town x) h = orderly-open s x h
+orderly-begun s _ h = h
 
-orderly-acted : (s : Seen) (l : Line) → (s.settings ≡ None → ⊥) → GoodLine l → Orderly s → Orderly (acted s l).town
-orderly-acted s line.Blank on good h = h
-orderly-acted s (line.Town x) on good h = h
-orderly-acted s (line.Reader a) on good h = orderly-reader s a h good
-orderly-acted s (line.Service a) on good h = orderly-service s a h good
-orderly-acted s (line.Tick t) on good h = orderly-tick s t on h
+orderly-acted : (s : Seen) (l : say.Said) → (s.settings ≡ None → ⊥) → GoodLine l → Orderly s → Orderly (acted s l).town
+orderly-acted s say.Blank on good h = h
+orderly-acted s (say.Reader a) on good h = orderly-reader s a h good
+orderly-acted s (say.Service a) on good h = orderly-service s a h good
+orderly-acted s (say.Tick t) on good h = orderly-tick s t on h
+orderly-acted s _ on good h = h
 
-orderly-heard : (s : Seen) (o : Option Line) → If GoodLine o → Orderly s → Orderly (heard s o).town
+orderly-heard : (s : Seen) (o : Option say.Said) → If GoodLine o → Orderly s → Orderly (heard s o).town
 orderly-heard s None good h = h
 orderly-heard s (Some l) good h = split (λ o. Orderly o.town) s l s.settings refl (λ _. orderly-begun s l h) (λ on. orderly-acted s l on good h)
 
 pub stays-orderly : StaysOrderly
 stays-orderly s l h = orderly-heard s (read_of l) (good-line l) h
 
-later-begun : (s : Seen) (l : Line) → s.tick ≡ 0 → Later s (begun s l)
-later-begun s line.Blank zero = omega arith
-later-begun s (line.Town x) zero = later-open s x zero
-later-begun s (line.Reader a) zero = omega arith
-later-begun s (line.Service a) zero = omega arith
-later-begun s (line.Tick t) zero = omega arith
+later-begun : (s : Seen) (l : say.Said) → s.tick ≡ 0 → Later s (begun s l)
+later-begun s say.Blank zero = omega arith
+later-begun s (say.Town x) zero = later-open s x zero
+later-begun s _ zero = omega arith
 
-later-acted : (s : Seen) (l : Line) → Later s (acted s l)
-later-acted s line.Blank = omega arith
-later-acted s (line.Town x) = omega arith
-later-acted s (line.Reader a) = later-reader s a
-later-acted s (line.Service a) = later-service s a
-later-acted s (line.Tick t) = later-tick s t
+later-acted : (s : Seen) (l : say.Said) → Later s (acted s l)
+later-acted s say.Blank = omega arith
+later-acted s (say.Reader a) = later-reader s a
+later-acted s (say.Service a) = later-service s a
+later-acted s (say.Tick t) = later-tick s t
+later-acted s _ = omega arith
 
-later-heard : (s : Seen) (o : Option Line) → Orderly s → Later s (heard s o)
+later-heard : (s : Seen) (o : Option say.Said) → Orderly s → Later s (heard s o)
 later-heard s None h = omega arith
 later-heard s (Some l) h = split (Later s) s l s.settings refl (λ none. later-begun s l (h.from_zero none)) (λ _. later-acted s l)
 
 pub time-goes-on : TimeGoesOn
 time-goes-on s l h = later-heard s (read_of l) h
 
-kept-begun : (s : Seen) (l : Line) → Kept s (begun s l)
-kept-begun s line.Blank = λ _. refl
-kept-begun s (line.Town x) = kept-open s x
-kept-begun s (line.Reader a) = λ _. refl
-kept-begun s (line.Service a) = λ _. refl
-kept-begun s (line.Tick t) = λ _. refl
+kept-begun : (s : Seen) (l : say.Said) → Kept s (begun s l)
+kept-begun s say.Blank = λ _. refl
+kept-begun s (say.Town x) = kept-open s x
+kept-begun s _ = λ _. refl
 
-kept-acted : (s : Seen) (l : Line) → Kept s (acted s l)
-kept-acted s line.Blank = λ _. refl
-kept-acted s (line.Town x) = λ _. refl
-kept-acted s (line.Reader a) = kept-reader s a
-kept-acted s (line.Service a) = kept-service s a
-kept-acted s (line.Tick t) = kept-tick s t
+kept-acted : (s : Seen) (l : say.Said) → Kept s (acted s l)
+kept-acted s say.Blank = λ _. refl
+kept-acted s (say.Reader a) = kept-reader s a
+kept-acted s (say.Service a) = kept-service s a
+kept-acted s (say.Tick t) = kept-tick s t
+kept-acted s _ = λ _. refl
 
-kept-heard : (s : Seen) (o : Option Line) → Kept s (heard s o)
+kept-heard : (s : Seen) (o : Option say.Said) → Kept s (heard s o)
 kept-heard s None = λ _. refl
 kept-heard s (Some l) = split (Kept s) s l s.settings refl (λ _. kept-begun s l) (λ _. kept-acted s l)
 

@@ -1,15 +1,10 @@
--- What holds of the lines that are read, and of every town, whatever its script says. Assumes nothing.
+-- What holds of every town, whatever its script says. Assumes nothing.
 --   Orderly s    room is kept, numbers are in range and belong to one each, time has an end
 --   after s ls   the town s after it heard the lines ls
---   line_text l  how the line l is written
-use Rattle.std.specs.Prelude.{◌≡◌, ℕ, ◌+◌, ◌-◌, ◌^◌, ◌<◌, ◌≤◌, List, [], ◌∷◌, ◌++◌, length, Some, None, codes, decimal, count_by, nat_eq}
-use Rattle.script.specs.declared.lines.Account.{Account}
-use Rattle.script.specs.declared.lines.Line.{Line}
-use Rattle.script.specs.declared.lines.Line.TheVariants as line
-use Rattle.script.specs.declared.lines.Settings.{Settings}
+use Rattle.std.specs.Prelude.{◌≡◌, ℕ, ◌+◌, ◌^◌, ◌<◌, ◌≤◌, List, [], ◌∷◌, length, None, count_by, nat_eq}
+use Rattle.commands.specs.declared.line.Account.{Account}
+use Rattle.commands.specs.Grammar.{read_of}
 use Rattle.script.specs.declared.town.Answer.TheVariants.{Fault}
-use Rattle.words.specs.Laws.{hex_text}
-use Rattle.script.specs.Grammar.{read_of}
 use Rattle.script.specs.Play.{Seen, nobody, heard}
 
 -- how many of them have the number n
@@ -51,30 +46,3 @@ after s (l ∷ more) = after (heard s (read_of l)).town more
 -- whatever the script says
 abbrev pub TownsAreOrderly : Type 0
 TownsAreOrderly = (script : List (List ℕ)) → Orderly (after nobody script)
-
--- the words of a line, with a space between them
-abbrev pub settings_text : Settings → List ℕ
-settings_text x = decimal x.tick ++ (32 ∷ decimal x.life ++ (32 ∷ decimal x.lag ++ (32 ∷ hex_text x.seed.bytes)))
-
-abbrev pub account_text : Account → List ℕ
-account_text a = decimal a.number ++ (32 ∷ hex_text a.key.bytes)
-
--- how a line is written; an empty line stands for all that are passed over
-abbrev pub line_text : Line → List ℕ
-line_text line.Blank = []
-line_text (line.Town x) = codes "town" ++ (32 ∷ settings_text x)
-line_text (line.Reader a) = codes "reader" ++ (32 ∷ account_text a)
-line_text (line.Service a) = codes "service" ++ (32 ∷ account_text a)
-line_text (line.Tick t) = codes "tick" ++ (32 ∷ decimal t)
-
--- a line that says something, in numbers below the one that stands for all larger
-abbrev pub Plain : Line → Type 0
-Plain line.Blank = ⊥
-Plain (line.Town x) = (x.tick < 2 ^ 64 - 1) × (x.life < 2 ^ 64 - 1) × (x.lag < 2 ^ 64 - 1)
-Plain (line.Reader a) = Unit {0}
-Plain (line.Service a) = Unit {0}
-Plain (line.Tick t) = t < 2 ^ 64 - 1
-
--- a line is read from the text that writes it, and from no other
-abbrev pub LinesAreExact : Type 0
-LinesAreExact = (s : List ℕ) (l : Line) → read_of s ≡ Some l → Plain l → s ≡ line_text l

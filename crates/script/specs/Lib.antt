@@ -1,4 +1,4 @@
-pub mod Grammar
 pub mod Laws
 pub mod Play
 pub mod Shown
+pub mod There

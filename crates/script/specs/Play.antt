@@ -2,11 +2,11 @@
 --   Seen         the town: its settings, none before the first line; the tick; who there is
 --   Outcome      what comes of a line: the town after it, and the answer
 --   heard s l    what comes of a line that reads as l; None is a line that can't be read
-use Rattle.std.specs.Prelude.{ℕ, ◌^◌, Bool, false, cond, ◌&&◌, ◌||◌, List, [], ◌∷◌, ◌++◌, length, Some, None, vec_items, Option, ◌==◌, nat_le, nat_lt}
-use Rattle.script.specs.declared.lines.Account.{Account}
-use Rattle.script.specs.declared.lines.Line.{Line}
-use Rattle.script.specs.declared.lines.Line.TheVariants as line
-use Rattle.script.specs.declared.lines.Settings.{Settings}
+use Rattle.std.specs.Prelude.{ℕ, ◌^◌, Bool, cond, ◌&&◌, ◌||◌, List, [], ◌∷◌, ◌++◌, length, Some, None, vec_items, Option, nat_le, nat_lt}
+use Rattle.commands.specs.declared.line.Account.{Account}
+use Rattle.commands.specs.declared.line.Settings.{Settings}
+use Rattle.commands.specs.Said as say
+use Rattle.script.specs.There.{there}
 use Rattle.script.specs.declared.town.Answer.{Answer}
 use Rattle.script.specs.declared.town.Answer.TheVariants as answers
 use Rattle.script.specs.declared.town.Town.{Town}
@@ -21,8 +21,8 @@ abbrev pub seen : Town → Seen
 seen t = record {
   settings = t.settings;
   tick = t.tick;
-  readers = vec_items t.readers;
-  services = vec_items t.services;
+  readers = vec_items t.readers.accounts;
+  services = vec_items t.services.accounts;
 }
 
 pub record Outcome : Type 0 where
@@ -53,11 +53,6 @@ opened s x = cond (in_range x)
       answer = answers.Town x.tick x.life x.lag;
     })
     (refused s)
-
--- one of them has that number
-unfoldable pub there : ℕ → List Account → Bool
-there n [] = false
-there n (a ∷ more) = a.number == n || there n more
 
 -- a reader or a service has that number
 abbrev pub known : Seen → ℕ → Bool
@@ -91,24 +86,22 @@ ticked s t = cond (nat_lt t s.tick || nat_le (2 ^ 63) t)
     })
 
 -- the first line that says something opens the town
-abbrev pub begun : Seen → Line → Outcome
-begun s line.Blank = passed_over s
-begun s (line.Town x) = opened s x
-begun s (line.Reader a) = refused s
-begun s (line.Service a) = refused s
-begun s (line.Tick t) = refused s
+abbrev pub begun : Seen → say.Said → Outcome
+begun s say.Blank = passed_over s
+begun s (say.Town x) = opened s x
+begun s _ = refused s
 
--- and every later one says what happens
-abbrev pub acted : Seen → Line → Outcome
-acted s line.Blank = passed_over s
-acted s (line.Town x) = refused s
-acted s (line.Reader a) = with_reader s a
-acted s (line.Service a) = with_service s a
-acted s (line.Tick t) = ticked s t
+-- and every later one says what happens; what the first form does not play is refused
+abbrev pub acted : Seen → say.Said → Outcome
+acted s say.Blank = passed_over s
+acted s (say.Reader a) = with_reader s a
+acted s (say.Service a) = with_service s a
+acted s (say.Tick t) = ticked s t
+acted s _ = refused s
 
-abbrev pub obeyed : Seen → Line → Outcome
+abbrev pub obeyed : Seen → say.Said → Outcome
 obeyed s l = elim s.settings [ None ↦ begun s l | Some x ↦ acted s l ]
 
-abbrev pub heard : Seen → Option Line → Outcome
+abbrev pub heard : Seen → Option say.Said → Outcome
 heard s None = refused s
 heard s (Some l) = obeyed s l

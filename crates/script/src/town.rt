@@ -1,24 +1,26 @@
 // A town: its settings, the tick and who there is.
-ghost use Rattle.std.specs.Prelude.{◌≤◌, vec_capacity};
-
-use crate::lines::{Account, Settings};
+use commands::line::Settings;
+use roll::Roll;
 
 pub mod acts;
+mod roll;
 pub mod shows;
 
-// The room for readers and services is taken at the start, so that no line can fail for want of memory.
+const MAX_READERS: usize = 16;
+
+const MAX_SERVICES: usize = 8;
+
+// A town that is played by its script, line by line.
 #[derive(Drop)]
 pub struct Town {
     // None until the first line.
     settings: Option<Settings>,
     tick: u64,
-    readers: Vec<Account>,
-    services: Vec<Account>,
-    ghost sixteen: { 16 ≤ vec_capacity readers },
-    ghost eight: { 8 ≤ vec_capacity services },
+    readers: Roll<MAX_READERS>,
+    services: Roll<MAX_SERVICES>,
 }
 
-// What came of a line.
+// What came of a line. The fault stands among the answers, since each of the six is what is printed of a line.
 #[derive(Clone, Copy)]
 pub enum Answer {
     // It was empty or a comment.

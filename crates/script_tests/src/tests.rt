@@ -10,9 +10,7 @@ const SEED: &str = "00112233445566778899aabbccddeeff00112233445566778899aabbccdd
 // What a new town answers to a first line.
 fn first(heap: Global, line: &str) -> Result<String, Fail> {
     let mut town = Town::new(heap)?;
-    let answer = town.hear(line.as_bytes());
-    let text = format!(in heap; "{answer}")?;
-    Ok(text)
+    Ok(town.hear(line.as_bytes()).to_string(heap)?)
 }
 
 // That a new town takes the first line that begins so, with the seed after it.
@@ -23,6 +21,15 @@ fn opens(rt: &impl Abort, heap: Global, front: &str, shown: &str) -> Result<(), 
     Ok(())
 }
 
+// That a new town refuses each first line that begins so.
+fn refuses(rt: &impl Abort, heap: Global, fronts: &[&str]) -> Result<(), Fail> {
+    for front in fronts {
+        opens(rt, heap, front, "fault 13")?;
+    }
+    Ok(())
+}
+
+// What a town answers to a first line that is in range.
 #[test]
 fn first_lines_in_range(rt: HostRuntime) -> Result<(), Fail> {
     let heap = rt.alloc();
@@ -48,10 +55,7 @@ fn first_lines_out_of_range(rt: HostRuntime) -> Result<(), Fail> {
         "town 100 1000 999999999999999999999999999999 ",
         "town 100 18446744073709551617 5 ",
     ];
-    for front in fronts {
-        opens(&rt, heap, front, "fault 13")?;
-    }
-    Ok(())
+    refuses(&rt, heap, &fronts)
 }
 
 #[test]
@@ -75,10 +79,7 @@ fn first_lines_that_are_not_read(rt: HostRuntime) -> Result<(), Fail> {
         "house 100 1000 5 ",
         "",
     ];
-    for front in fronts {
-        opens(&rt, heap, front, "fault 13")?;
-    }
-    Ok(())
+    refuses(&rt, heap, &fronts)
 }
 
 #[test]

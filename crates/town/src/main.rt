@@ -1,8 +1,8 @@
 // The program `town`: plays the script in the file that its argument names, or on standard input.
 #![tactic(auto)]
 
-use anyhow::anyhow;
-use script::lines::first_line;
+use anyhow::bail;
+use commands::lines::Lines;
 use script::town::{Answer, Town};
 use std::io::{Read, Write};
 use std::process::ExitCode;
@@ -14,7 +14,7 @@ fn script_text(rt: &HostRuntime) -> anyhow::Result<Vec<u8>> {
     let _program = args.next();
     let path = args.next();
     if args.next().is_some() {
-        return Err(anyhow!("one script at a time, or none for standard input"));
+        bail!("one script at a time, or none for standard input");
     }
     if let Some(path) = path {
         return Ok(fs::read(rt, path.as_str())?);
@@ -27,10 +27,7 @@ fn script_text(rt: &HostRuntime) -> anyhow::Result<Vec<u8>> {
 // Prints a line for each line that says something. A first line that is not good ends the play.
 fn play(rt: &HostRuntime, text: &[u8]) -> anyhow::Result<()> {
     let mut town = Town::new(rt.alloc())?;
-    let mut rest = text;
-    while !rest.is_empty() {
-        let (line, after) = first_line(rest);
-        rest = after;
+    for line in Lines::new(text) {
         let answer = town.hear(line);
         if let Answer::Silent = answer {
             continue;
@@ -38,7 +35,7 @@ fn play(rt: &HostRuntime, text: &[u8]) -> anyhow::Result<()> {
         println!(rt; "{answer}")?;
         rt.stdout().flush()?;
         if !town.is_open() {
-            return Err(anyhow!("the first line has to be: town TICK LIFE LAG SEED"));
+            bail!("the first line has to be: town TICK LIFE LAG SEED");
         }
     }
     Ok(())
@@ -49,6 +46,7 @@ fn run(rt: &HostRuntime) -> anyhow::Result<()> {
     play(rt, text.as_slice())
 }
 
+// As main of the other town: an error is told on standard error, after the name of the program.
 fn main(rt: HostRuntime) -> ExitCode {
     match run(&rt) {
         Ok(()) => ExitCode::SUCCESS,

@@ -3,10 +3,10 @@ use Rattle.std.proofs.Common.{◌≡◌, ℕ, ◌%◌, Bool, true, false, not, �
 use Rattle.std.specs.Str.{bytes_eq}
 use Rattle.std.proofs.lemmas.Slice.Eq.{bytes_eq-Decides}
 use Rattle.std.proofs.lemmas.Bool.{eqb-true, eqb-false, eq-eqb, ne_eqb, cases_Bool, and_from, and_parts}
-use Rattle.words.specs.Text.{hexes, all_hex, octets, paired}
+use Rattle.words.specs.Text.{all_hex, octets, paired}
 use Rattle.words.specs.Laws.{hex_text, bytes_text, Octets, BytesReadBack, BytesAreExact}
 use Rattle.words.proofs.Pairs.{text-octets, octets-text, length-text, hexes-text}
-use Rattle.words.proofs.Scan.{hex-all, length-octets, hex_of-dash, hex_of-not, hex_of-paired, dash-alone}
+use Rattle.words.proofs.Scan.{length-octets, hex_of-dash, hex_of-not, hex_of-paired, dash-alone}
 
 -- one byte or more is written in pairs of digits
 paired-text : (b : ℕ) (bytes : List ℕ) → Octets (b ∷ bytes) → paired (hex_text (b ∷ bytes)) ≡ true
@@ -14,7 +14,7 @@ paired-text b bytes h =
     let long = length-text (b ∷ bytes) in
     and_from (not (eqb (length (hex_text (b ∷ bytes))) 0)) _
     (ap not (ne_eqb (length (hex_text (b ∷ bytes))) 0 (λ (e : length (hex_text (b ∷ bytes)) ≡ 0). omega arith)))
-    (and_from (eqb (length (hex_text (b ∷ bytes)) % 2) 0) _ (eq-eqb _ 0 (omega arith)) (hex-all (hex_text (b ∷ bytes)) (hexes-text (b ∷ bytes) h)))
+    (and_from (eqb (length (hex_text (b ∷ bytes)) % 2) 0) _ (eq-eqb _ 0 (omega arith)) (hexes-text (b ∷ bytes) h))
 
 pub bytes_back : BytesReadBack
 bytes_back [] h = hex_of-dash (codes "-") refl
@@ -37,7 +37,6 @@ some-text s (b ∷ bytes) h e = e
 
 -- pairs of digits are written as they stand
 paired-exact : (s bytes : List ℕ) → paired s ≡ true → octets s ≡ bytes → s ≡ bytes_text bytes
-unfolding all_hex
 paired-exact s bytes h e =
     let whole = and_parts (not (eqb (length s) 0)) (eqb (length s % 2) 0 && all_hex s) h in
     let halves = and_parts (eqb (length s % 2) 0) (all_hex s) whole.1 in
@@ -45,7 +44,7 @@ paired-exact s bytes h e =
     let some : length s ≡ 0 → ⊥ = eqb-false (length s) 0 (not-true (eqb (length s) 0) whole.0) in
     some-text s bytes
     (λ (z : length bytes ≡ 0). some (omega (arith, length-octets s, ap (λ (x : List ℕ). length x) e)))
-    (sym (text-octets s even (eqb-true (hexes s) (length s) halves.1)) ∙ ap hex_text e)
+    (sym (text-octets s even halves.1) ∙ ap hex_text e)
 
 pub bytes-exact : BytesAreExact
 bytes-exact s bytes e = ⊎_elim

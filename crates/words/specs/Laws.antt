@@ -2,7 +2,7 @@
 --   hex_text bytes     the bytes written in hex
 --   bytes_text bytes   the same, with a dash for none
 use Rattle.std.specs.Prelude.{◌≡◌, ℕ, ◌+◌, ◌-◌, ◌/◌, ◌%◌, ◌^◌, ◌<◌, cond, List, [], ◌∷◌, length, Some, codes, decimal, nat_lt}
-use Rattle.words.specs.declared.Key.{Key}
+use Rattle.parts.specs.declared.word.Key.{Key}
 use Rattle.words.specs.Text.{decimal_of, hex_of, key_of}
 
 -- a number that is written in decimal is read back
@@ -29,11 +29,11 @@ Octets (b ∷ bytes) = (b < 256) × Octets bytes
 
 -- a key that is written in hex is read back
 abbrev pub KeysReadBack : Type 0
-KeysReadBack = (k : Key) → length k.bytes ≡ 32 → Octets k.bytes → key_of (hex_text k.bytes) ≡ Some k
+KeysReadBack = (k : Key) → length k.0 ≡ 32 → Octets k.0 → key_of (hex_text k.0) ≡ Some k
 
 -- and nothing else is read as that key
 abbrev pub KeysAreExact : Type 0
-KeysAreExact = (s : List ℕ) (k : Key) → key_of s ≡ Some k → s ≡ hex_text k.bytes
+KeysAreExact = (s : List ℕ) (k : Key) → key_of s ≡ Some k → s ≡ hex_text k.0
 
 -- bytes written in hex, with a dash for none
 abbrev pub bytes_text : List ℕ → List ℕ

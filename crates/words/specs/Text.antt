@@ -6,16 +6,17 @@
 --   hex_of s        the bytes that s gives in hex
 --   key_of s        the key that s gives in hex
 use Rattle.std.specs.Prelude.{ℕ, ◌+◌, ◌-◌, ◌*◌, ◌/◌, ◌%◌, ◌^◌, min, Bool, cond, not, ◌&&◌, List, [], ◌++◌, map, length, take, drop, is_some, Some, None, codes, Option, ◌==◌, nat_le, nat_lt, slice_index}
-use Rattle.std.specs.List.{range_with_len, prefix_len}
+use Rattle.std.specs.List.{list_all, position_or_len}
 use Rattle.std.specs.Option.{unwrap_or}
 use Rattle.std.specs.Str.Parse.{digits_value}
 use Rattle.std.specs.Char.{is_ascii_digit}
+use Rattle.std.specs.Simd.{first_chunks}
 use Rattle.std.specs.Str.{bytes_eq}
-use Rattle.words.specs.declared.Key.{Key}
+use Rattle.parts.specs.declared.word.Key.{Key}
 
 -- how many bytes stand before the first b
 unfoldable pub before : ℕ → List ℕ → ℕ
-before b s = prefix_len (λ x. not (x == b)) s
+before b s = position_or_len (λ x. x == b) s
 
 -- what stands before and after the first b
 unfoldable pub cut_at : ℕ → List ℕ → Option (List ℕ × List ℕ)
@@ -23,13 +24,9 @@ cut_at b s = cond (nat_lt (before b s) (length s))
     (Some (take (before b s) s, drop (before b s + 1) s))
     None
 
--- how many digits s begins with
-unfoldable pub digits : List ℕ → ℕ
-digits s = prefix_len is_ascii_digit s
-
 -- the number that digits write; the largest of 64 bits stands for all above it
 unfoldable pub number_of : List ℕ → Option ℕ
-number_of s = cond (digits s == length s) (Some (min (digits_value 10 s) (2 ^ 64 - 1))) None
+number_of s = cond (list_all is_ascii_digit s) (Some (min (digits_value 10 s) (2 ^ 64 - 1))) None
 
 -- the same, of at least one digit and with no leading zero
 unfoldable pub decimal_of : List ℕ → Option ℕ
@@ -44,6 +41,10 @@ and_then (Some x) f = f x
 -- a principal's number
 abbrev pub principal_of : List ℕ → Option ℕ
 principal_of s = and_then (decimal_of s) (λ n. cond (n == 0) None (cond (nat_lt 1023 n) None (Some n)))
+
+-- a number that two bytes hold
+abbrev pub short_of : List ℕ → Option ℕ
+short_of s = and_then (decimal_of s) (λ n. cond (nat_lt 65535 n) None (Some n))
 
 -- a word that is read, a space, and what comes after
 abbrev pub word_then : {A : Type 0} → (List ℕ → Option A) → List ℕ → Option (A × List ℕ)
@@ -61,25 +62,21 @@ nibble_of b =
     cond (nat_le 48 b && nat_le b 57) (Some (b - 48))
     (cond (nat_le 97 b && nat_le b 102) (Some (b - 97 + 10)) None)
 
--- how many hex digits s begins with
-unfoldable pub hexes : List ℕ → ℕ
-hexes s = prefix_len (λ b. is_some (nibble_of b)) s
-
 -- every byte is a hex digit
-unfoldable pub all_hex : List ℕ → Bool
-all_hex s = hexes s == length s
+abbrev pub all_hex : List ℕ → Bool
+all_hex s = list_all (λ b. is_some (nibble_of b)) s
 
 -- the byte that two digits write
 unfoldable pub octet_of : ℕ → ℕ → ℕ
 octet_of high low = unwrap_or (nibble_of high) 0 * 16 + unwrap_or (nibble_of low) 0
 
--- the byte that the pair of digits number i writes
-abbrev pub octet_at : List ℕ → ℕ → ℕ
-octet_at s i = octet_of (slice_index s (2 * i)) (slice_index s (2 * i + 1))
+-- the byte that a pair of digits writes
+abbrev pub pair_octet : List ℕ → ℕ
+pair_octet p = octet_of (slice_index p 0) (slice_index p 1)
 
 -- the bytes that pairs of digits write
 unfoldable pub octets : List ℕ → List ℕ
-octets s = map (octet_at s) (range_with_len 0 (length s / 2))
+octets s = map pair_octet (first_chunks 2 (length s / 2) s)
 
 -- one or more pairs of hex digits
 abbrev pub paired : List ℕ → Bool
@@ -104,4 +101,4 @@ put_front old (Some bytes) = bytes ++ drop (length bytes) old
 
 -- a key is written in 64 hex digits
 abbrev pub key_of : List ℕ → Option Key
-key_of s = cond (length s == 64 && all_hex s) (Some (record { bytes = octets s })) None
+key_of s = cond (length s == 64 && all_hex s) (Some (record { 0 = octets s })) None

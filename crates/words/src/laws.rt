@@ -2,25 +2,19 @@
 ghost use Rattle.words.specs.Laws.{DecimalsReadBack, DecimalsAreExact, KeysReadBack, KeysAreExact, BytesReadBack, BytesAreExact};
 
 // A decimal that is written is read back, and nothing else is read as that number.
-pub fn decimals_are_exact() -> u8
+pub fn decimals_are_exact()
     ensures back { DecimalsReadBack }
     ensures exact { DecimalsAreExact }
-{
-    0
-}
+{}
 
 // A key that is written in hex is read back, and nothing else is read as that key.
-pub fn keys_are_exact() -> u8
+pub fn keys_are_exact()
     ensures back { KeysReadBack }
     ensures exact { KeysAreExact }
-{
-    0
-}
+{}
 
 // Bytes that are written in hex are read back, and nothing else is read as those bytes.
-pub fn bytes_are_exact() -> u8
+pub fn bytes_are_exact()
     ensures back { BytesReadBack }
     ensures exact { BytesAreExact }
-{
-    0
-}
+{}

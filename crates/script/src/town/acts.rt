@@ -1,16 +1,15 @@
 // What a town does at each line of its script.
 ghost use Rattle.std.specs.Prelude.{◌≡◌, ◌≤◌, is_some, IfOk};
-ghost use Rattle.script.specs.Grammar.{read_of};
+ghost use Rattle.commands.specs.Grammar.{read_of};
+ghost use Rattle.commands.specs.Said.{said};
 ghost use Rattle.script.specs.Laws.{Orderly};
-ghost use Rattle.script.specs.Play.{seen, nobody, in_range, there, known, opened, with_reader, with_service, ticked, begun, acted, obeyed, heard};
+ghost use Rattle.script.specs.Play.{seen, nobody, in_range, known, opened, with_reader, with_service, ticked, begun, acted, obeyed, heard};
 
-use crate::lines::{Account, Line, Settings, read};
+use crate::town::roll::Roll;
 use crate::town::{Answer, Town};
+use commands::line::{Account, Line, Settings};
+use commands::lines::read;
 use std::alloc::{AllocError, Global};
-
-const MAX_READERS: usize = 16;
-
-const MAX_SERVICES: usize = 8;
 
 const MAX_LIFE: u64 = 86_400;
 
@@ -23,21 +22,8 @@ fn in_range(settings: &Settings) -> bool
     ensures { result ≡ in_range settings.now }
 {
     settings.tick < END_OF_TIME
-        && settings.life >= 1
-        && settings.life <= MAX_LIFE
+        && (1..=MAX_LIFE).contains(&settings.life)
         && settings.lag <= MAX_LAG
-}
-
-// Whether one of the accounts has that number.
-fn has(accounts: &[Account], number: u16) -> bool
-    ensures { result ≡ there number accounts.now }
-{
-    for a in accounts {
-        if a.number == number {
-            return true;
-        }
-    }
-    false
 }
 
 impl Town {
@@ -45,8 +31,8 @@ impl Town {
     pub fn new(heap: Global) -> Result<Town, AllocError>
         ensures { IfOk result (λ t. (seen t ≡ nobody) × Orderly (seen t)) }
     {
-        let readers = Vec::with_capacity(heap, MAX_READERS)?;
-        let services = Vec::with_capacity(heap, MAX_SERVICES)?;
+        let readers = Roll::new(heap)?;
+        let services = Roll::new(heap)?;
         Ok(Town {
             settings: None,
             tick: 0,
@@ -78,8 +64,8 @@ impl Town {
 
     // Obeys a line that was read.
     fn obey(&mut self, line: Line) -> Answer
-        ensures answer { result ≡ (obeyed (seen self.old) line).answer }
-        ensures after { seen self.new ≡ (obeyed (seen self.old) line).town }
+        ensures answer { result ≡ (obeyed (seen self.old) (said line.entry)).answer }
+        ensures after { seen self.new ≡ (obeyed (seen self.old) (said line.entry)).town }
     {
         if self.is_open() {
             self.act(line)
@@ -90,32 +76,31 @@ impl Town {
 
     // The first line has the settings.
     fn begin(&mut self, line: Line) -> Answer
-        ensures answer { result ≡ (begun (seen self.old) line).answer }
-        ensures after { seen self.new ≡ (begun (seen self.old) line).town }
+        ensures answer { result ≡ (begun (seen self.old) (said line.entry)).answer }
+        ensures after { seen self.new ≡ (begun (seen self.old) (said line.entry)).town }
     {
         match line {
             Line::Blank => Answer::Silent,
             Line::Town(settings) => self.open(settings),
-            Line::Reader(_) => Answer::Fault,
-            Line::Service(_) => Answer::Fault,
-            Line::Tick(_) => Answer::Fault,
+            _ => Answer::Fault,
         }
     }
 
     // Every later line says what happens.
     fn act(&mut self, line: Line) -> Answer
-        ensures answer { result ≡ (acted (seen self.old) line).answer }
-        ensures after { seen self.new ≡ (acted (seen self.old) line).town }
+        ensures answer { result ≡ (acted (seen self.old) (said line.entry)).answer }
+        ensures after { seen self.new ≡ (acted (seen self.old) (said line.entry)).town }
     {
         match line {
             Line::Blank => Answer::Silent,
-            Line::Town(_) => Answer::Fault,
             Line::Reader(a) => self.add_reader(a),
             Line::Service(a) => self.add_service(a),
             Line::Tick(tick) => self.pass(tick),
+            _ => Answer::Fault,
         }
     }
 
+    // The town opens with settings in range.
     fn open(&mut self, settings: Settings) -> Answer
         ensures answer { result ≡ (opened (seen self.old) settings).answer }
         ensures after { seen self.new ≡ (opened (seen self.old) settings).town }
@@ -136,34 +121,30 @@ impl Town {
     fn knows(&self, number: u16) -> bool
         ensures { result ≡ known (seen self.now) number }
     {
-        has(self.readers.as_slice(), number) || has(self.services.as_slice(), number)
+        self.readers.has(number) || self.services.has(number)
     }
 
+    // One more reader, of a number that nobody has. Readers and services have rolls of two sizes and answers of their own.
     fn add_reader(&mut self, a: Account) -> Answer
         ensures answer { result ≡ (with_reader (seen self.old) a).answer }
         ensures after { seen self.new ≡ (with_reader (seen self.old) a).town }
     {
-        if self.readers.len() >= MAX_READERS {
+        if self.readers.is_full() || self.knows(a.number) {
             return Answer::Fault;
         }
-        if self.knows(a.number) {
-            return Answer::Fault;
-        }
-        self.readers.push_reserved(a);
+        self.readers.add(a);
         Answer::Reader(a.number)
     }
 
+    // One more service, of a number that nobody has.
     fn add_service(&mut self, a: Account) -> Answer
         ensures answer { result ≡ (with_service (seen self.old) a).answer }
         ensures after { seen self.new ≡ (with_service (seen self.old) a).town }
     {
-        if self.services.len() >= MAX_SERVICES {
+        if self.services.is_full() || self.knows(a.number) {
             return Answer::Fault;
         }
-        if self.knows(a.number) {
-            return Answer::Fault;
-        }
-        self.services.push_reserved(a);
+        self.services.add(a);
         Answer::Service(a.number)
     }
 
@@ -172,10 +153,7 @@ impl Town {
         ensures answer { result ≡ (ticked (seen self.old) tick).answer }
         ensures after { seen self.new ≡ (ticked (seen self.old) tick).town }
     {
-        if tick < self.tick {
-            return Answer::Fault;
-        }
-        if tick >= END_OF_TIME {
+        if tick < self.tick || tick >= END_OF_TIME {
             return Answer::Fault;
         }
         self.tick = tick;

@@ -1,12 +1,12 @@
 use Rattle.std.proofs.Common.{rules}
 use Rattle.std.proofs.lemmas.List.{take_rest}
-use Rattle.words.specs.Text.{cut_at}
+use Rattle.words.specs.Text.{before, cut_at}
 use Rattle.words.proofs.cut.Goals as goal
 
-pub returns-then-n-text : goal.returns-then-n-text
-unfolding cut_at
-returns-then-n-text c = search (rules, take_rest)
+pub returns-in_err-n : goal.returns-in_err-n
+unfolding cut_at before
+returns-in_err-n c = search rules
 
-pub returns-else-n-text : goal.returns-else-n-text
-unfolding cut_at
-returns-else-n-text c = search rules
+pub returns : goal.returns
+unfolding cut_at before
+returns c = search (rules, take_rest)

@@ -3,14 +3,14 @@ use Rattle.std.proofs.lemmas.Bool.Decides.{nat_tests}
 use Rattle.words.specs.Text.{decimal_of}
 use Rattle.words.proofs.decimal.Goals as goal
 
-pub returns-then-is_empty : goal.returns-then-is_empty
+pub returns-in_default : goal.returns-in_default
 unfolding decimal_of
-returns-then-is_empty c = search rules
+returns-in_default c = search rules
 
-pub returns-then-word-eq48 : goal.returns-then-word-eq48
+pub returns-in-empty : goal.returns-in-empty
 unfolding decimal_of
-returns-then-word-eq48 c = grind (arith, nat_tests)
+returns-in-empty c = search rules
 
-pub returns : goal.returns
+pub returns-in-empty-2 : goal.returns-in-empty-2
 unfolding decimal_of
-returns c = search rules
+returns-in-empty-2 c = grind (arith, nat_tests)

@@ -1,5 +1,5 @@
 use Rattle.std.proofs.Common.{◌≡◌, ◌≤◌, sym, ◌∙◌, subst, rules}
-use Rattle.script.specs.Grammar.{read_of}
+use Rattle.commands.specs.Grammar.{read_of}
 use Rattle.script.specs.Laws.{Orderly}
 use Rattle.script.specs.Play.{Seen, seen, heard}
 use Rattle.script.proofs.Order.{stays-orderly, faults-change-nothing, time-goes-on}
