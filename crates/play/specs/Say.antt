@@ -10,7 +10,7 @@ use Rattle.judge_rules.specs.declared.record.Done.{Done}
 use Rattle.judge_rules.specs.declared.record.Verdict.{Verdict}
 use Rattle.judge_rules.specs.declared.record.Verdict.TheVariants.{Asked, NotAsked, Stolen}
 use Rattle.judge_rules.specs.declared.total.Total.{Total}
-use Rattle.locked.specs.Locked.{words_in}
+use Rattle.parts.specs.What.{words_in}
 use Rattle.parts.specs.Fault.{fault_number}
 use Rattle.parts.specs.declared.fault.Fault.{Fault}
 use Rattle.parts.specs.declared.word.Key.{Key}

@@ -8,16 +8,15 @@ use std::alloc::{AllocError, Global};
 const DRAWN: usize = 262_208;
 
 // The stream of the house's own key, and the outsiders'.
+// Both are numbers above those of all principals, since a stream is drawn by a number, as its nonce.
 pub(crate) const HOUSE_KEY: u16 = 65_534;
 
 pub(crate) const OUTSIDERS: u16 = 65_535;
 
 // A side's number as a nonce, high byte first.
 fn nonce(number: u16) -> [u8; 12] {
-    let mut nonce = [0u8; 12];
-    nonce[10] = (number / 256) as u8;
-    nonce[11] = (number % 256) as u8;
-    nonce
+    let [high, low] = number.to_be_bytes();
+    [0, 0, 0, 0, 0, 0, 0, 0, 0, 0, high, low]
 }
 
 // The drawn bytes of a side.
@@ -25,10 +24,8 @@ pub(crate) fn stream(heap: Global, seed: &Key, number: u16) -> Result<Supply, Al
     let mut bytes = vec![in heap; 0u8; DRAWN]?;
     chacha20(&seed.0, &nonce(number), 0, bytes.as_mut_slice());
     let mut supply = Supply::new(heap);
-    match supply.add(heap, bytes.as_slice()) {
-        Ok(()) => Ok(supply),
-        Err(_) => Err(AllocError),
-    }
+    supply.add(heap, &bytes).map_err(|_| AllocError)?;
+    Ok(supply)
 }
 
 // The house's own key: the first 32 bytes of a stream of its own.

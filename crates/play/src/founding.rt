@@ -1,22 +1,24 @@
 // How a town begins.
-ghost use Rattle.play.specs.Play.{Begun};
+ghost use Rattle.play.specs.Play.{Begun, Found};
 ghost use Rattle.printed.specs.Printed.{shown};
 ghost use Rattle.std.specs.Prelude.{IfOk};
 
 use super::draw::{OUTSIDERS, house_key, stream};
 use super::say::numbers;
 use super::town::{Rules, Town};
-use commands::line::Settings;
+use commands::line::{Line, Settings};
+use commands::lines::read;
 use house_side::House;
 use judge_rules::{Judge, Total};
-use parts::Key;
 use printed::Text;
 use std::alloc::{AllocError, Global};
+use std::collections::BTreeMap;
 use torn::{Ledger, Torn};
 
 const MAX_LIFE: u64 = 86_400;
 
 // The town of these settings; none where they are out of range.
+// One None for all that is out of range: whichever setting it is, one fault tells it.
 pub fn begin(heap: Global, settings: &Settings, out: &mut Text) -> Result<Option<Town>, AllocError>
     ensures { IfOk result (λ o. Begun settings.now (shown out.old) o (shown out.new)) }
 {
@@ -24,7 +26,7 @@ pub fn begin(heap: Global, settings: &Settings, out: &mut Text) -> Result<Option
         return Ok(None);
     }
     let life = settings.life as u32;
-    let seed = Key(settings.seed.bytes);
+    let seed = settings.seed;
     let key = house_key(&seed);
     let memory = Torn::new(heap)?;
     let Ok(house) = house_rules::House::start(life, settings.lag, settings.tick, key, &memory)
@@ -37,6 +39,7 @@ pub fn begin(heap: Global, settings: &Settings, out: &mut Text) -> Result<Option
         seed,
     };
     let town = Town {
+        heap,
         rules,
         tick: settings.tick,
         house: House {
@@ -45,8 +48,8 @@ pub fn begin(heap: Global, settings: &Settings, out: &mut Text) -> Result<Option
             memory,
             drawn: stream(heap, &seed, 0)?,
         },
-        shops: Vec::new(heap),
-        posts: Vec::new(heap),
+        shops: BTreeMap::new(heap),
+        posts: BTreeMap::new(heap),
         words: Vec::new(heap),
         held: 0,
         outsiders: stream(heap, &seed, OUTSIDERS)?,
@@ -55,4 +58,14 @@ pub fn begin(heap: Global, settings: &Settings, out: &mut Text) -> Result<Option
     };
     numbers(out, b"town", &[settings.tick, settings.life, settings.lag])?;
     Ok(Some(town))
+}
+
+// The town that a script's first line begins; none where it is no line of settings, or they are out of range.
+pub fn found(heap: Global, out: &mut Text, line: &[u8]) -> Result<Option<Town>, AllocError>
+    ensures { IfOk result (λ o. Found line.now (shown out.old) o (shown out.new)) }
+{
+    match read(line) {
+        Some(Line::Town(settings)) => begin(heap, &settings, out),
+        _ => Ok(None),
+    }
 }

@@ -4,7 +4,6 @@
 mod accounts;
 mod bring;
 mod draw;
-mod find;
 mod founding;
 mod hear;
 mod outsiders;
@@ -12,5 +11,5 @@ mod say;
 mod town;
 mod want;
 
-pub use founding::begin;
+pub use founding::{begin, found};
 pub use town::Town;

@@ -1,12 +1,11 @@
 // The lines that a town prints.
 ghost use Rattle.play.specs.Say.{done_line, fault_line, inside_line, key_line, line_fault, numbers_line, side_line, start_line, then_hex, then_if, then_number, then_numbers, then_side, then_stolen, then_verdict, word_line};
-ghost use Rattle.locked.specs.Locked.{words_in};
 ghost use Rattle.printed.specs.Printed.{shown};
 ghost use Rattle.std.specs.Prelude.{◌≡◌, Some, OnOk};
 
 use commands::line::Side;
 use judge_rules::{Done, Verdict};
-use parts::{Fault, Key, What};
+use parts::{Fault, Key};
 use printed::Text;
 use std::alloc::AllocError;
 
@@ -35,11 +34,11 @@ fn then_side(out: &mut Text, side: Option<Side>) -> Result<(), AllocError>
         Some(Side::House) => out.plain(b" house"),
         Some(Side::Service(n)) => {
             out.plain(b" s")?;
-            out.number(n as u64)
+            out.number(u64::from(n))
         }
         Some(Side::Reader(n)) => {
             out.plain(b" r")?;
-            out.number(n as u64)
+            out.number(u64::from(n))
         }
     }
 }
@@ -77,7 +76,7 @@ pub(crate) fn at_side(out: &mut Text, word: &[u8], side: Side, ns: &[u64]) -> Re
 pub(crate) fn fault(out: &mut Text, side: Side, fault: Fault) -> Result<(), AllocError>
     ensures { OnOk result (shown out.new ≡ fault_line (shown out.old) side fault) }
 {
-    at_side(out, b"fault", side, &[fault.number() as u64])
+    at_side(out, b"fault", side, &[u64::from(fault.number())])
 }
 
 // A fault of the script's own line.
@@ -137,17 +136,6 @@ pub(crate) fn inside(out: &mut Text, bytes: &[u8]) -> Result<(), AllocError>
     out.plain(b"\n")
 }
 
-// The words that were asked.
-fn words(what: &What) -> &[u8]
-    ensures { result.now ≡ words_in what.now }
-{
-    let len = what.len as usize;
-    if len > 1024 {
-        return &what.bytes;
-    }
-    &what.bytes[0..len]
-}
-
 // A space and a number, if it is to be told.
 fn then_if(out: &mut Text, is_told: bool, n: u64) -> Result<(), AllocError>
     ensures { OnOk result (shown out.new ≡ then_if is_told (shown out.old) n) }
@@ -169,8 +157,8 @@ fn then_stolen(
     ensures { OnOk result (shown out.new ≡ then_stolen (shown out.old) done.now reader service house) }
 {
     out.plain(b" stolen")?;
-    then_if(out, reader, done.reader as u64)?;
-    then_if(out, service, done.service as u64)?;
+    then_if(out, reader, u64::from(done.reader))?;
+    then_if(out, service, u64::from(done.service))?;
     then_if(out, house, 0)
 }
 
@@ -198,9 +186,9 @@ pub(crate) fn done(out: &mut Text, done: &Done, verdict: Verdict) -> Result<(), 
     ensures { OnOk result (shown out.new ≡ done_line (shown out.old) done.now verdict) }
 {
     out.plain(b"done")?;
-    then_number(out, done.service as u64)?;
-    then_number(out, done.reader as u64)?;
-    then_hex(out, words(&done.what))?;
+    then_number(out, u64::from(done.service))?;
+    then_number(out, u64::from(done.reader))?;
+    then_hex(out, done.what.words())?;
     then_number(out, done.at)?;
     then_verdict(out, done, verdict)?;
     out.plain(b"\n")

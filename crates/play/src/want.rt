@@ -1,81 +1,60 @@
 // A reader's line.
-ghost use Rattle.std.specs.Prelude.{◌<◌, vec_len};
-
 use super::bring::{Mail, tell};
-use super::find::post_of;
 use super::say;
 use super::town::Town;
-use box_side::Show;
+use box_side::{Show, Told};
 use commands::line::Want;
+use judge_rules::Done;
 use parts::What;
 use printed::Text;
-use std::alloc::{AllocError, Global};
+use std::alloc::AllocError;
 use words::hex_bytes;
 
 // A number that two bytes hold; one that is too high stays too high.
 pub(crate) fn short(n: u64) -> u16 {
-    if n < 65_535 { n as u16 } else { 65_535 }
-}
-
-// What is asked; words that are too many stay too many.
-fn what_of(bytes: &[u8]) -> What {
-    let mut what = What {
-        len: short(bytes.len() as u64),
-        bytes: [0u8; 1024],
-    };
-    for (i, byte) in bytes.iter().enumerate() {
-        if i < 1024 {
-            what.bytes[i] = *byte;
-        }
-    }
-    what
+    u16::try_from(n).unwrap_or(u16::MAX)
 }
 
 impl Town {
     // A line at a reader's box.
-    pub(crate) fn want(
-        &mut self,
-        heap: Global,
-        out: &mut Text,
-        want: Want<'_>,
-    ) -> Result<(), AllocError> {
-        let Some(i) = post_of(self.posts.as_slice(), short(want.reader)) else {
+    pub(crate) fn want(&mut self, out: &mut Text, want: Want<'_>) -> Result<(), AllocError> {
+        let reader = short(want.reader);
+        if !self.posts.contains_key(&reader) {
             return say::line_fault(out);
-        };
-        let bytes = hex_bytes(heap, want.what)?;
-        let what = what_of(bytes.as_slice());
-        let mail = self.want_at(heap, out, i, short(want.service), want.ticket, what)?;
-        match mail {
-            None => Ok(()),
-            Some(mail) => self.deliver(heap, out, mail),
         }
+        let bytes = hex_bytes(self.heap, want.what)?;
+        let mail = self.want_at(out, reader, want, What::new(&bytes))?;
+        self.deliver(out, mail)
     }
 
     // What the box makes of the line; one that it does not refuse is noted by the judge.
     fn want_at(
         &mut self,
-        heap: Global,
         out: &mut Text,
-        i: usize,
-        service: u16,
-        by: Option<u64>,
+        reader: u16,
+        want: Want<'_>,
         what: What,
-    ) -> Result<Option<Mail>, AllocError>
-        requires { i < vec_len self.old.posts }
-    {
-        let number = self.posts[i].number;
-        let Some(at_hand) = self.posts[i].at_hand.take() else {
+    ) -> Result<Option<Mail>, AllocError> {
+        let service = short(want.service);
+        let Some(post) = self.posts.get_mut(&reader) else {
             return Ok(None);
         };
-        let (at_hand, told) = at_hand.want(heap, service, by, what);
-        self.posts[i].at_hand = Some(at_hand);
-        let told = told?;
-        match told.show {
-            Show::LogsIn | Show::Asks(_) => {
-                let _ = self.judge.note_line(number, service, what, self.tick)?;
-            }
-            Show::Takes(_) | Show::Receipt(_) | Show::Refused(_) | Show::Wrong(_) => {}
+        let told = post.reader_box.want(self.heap, service, want.ticket, what);
+        if let Ok(
+            Told {
+                show: Show::LogsIn | Show::Asks(_),
+                ..
+            },
+        ) = &told
+        {
+            let wanted = Done {
+                service,
+                reader,
+                what,
+                at: self.tick,
+            };
+            let _ = self.judge.note_line(wanted)?;
         }
-        tell(out, number, told)
+        tell(out, reader, told)
     }
 }

@@ -1,5 +1,0 @@
-use Rattle.crowd.proofs.run.Given as goal
-use Rattle.std.proofs.Common.{length}
-
-abbrev pub decreases-loop-rest : goal.decreases-loop-rest
-decreases-loop-rest l = length l.rest
