@@ -2,9 +2,10 @@
 // lines do not agree. The last line that it writes is how many agree.
 #![tactic(auto)]
 
-use anyhow::ensure;
+use anyhow::{anyhow, ensure};
 use cipher::{State, chacha20};
 use hash::{Hasher, Hmac, hmac_sha256, sha256};
+use hex::FromHexError;
 use seal::{Kind, append_lock, digest, inside, open_in_place};
 use std::alloc::{AllocError, Global};
 use std::io::{BufRead, BufReader};
@@ -55,16 +56,23 @@ impl Vector<'_> {
     }
 }
 
-// The bytes of a field in hex, in lower case, or of `-`, which is none.
+// The bytes of a field in hex, in lower case, or of `-`, which is none; a pair of others is told before half a byte.
 fn bytes_of(heap: Global, field: &str) -> anyhow::Result<Vec<u8>> {
     if field == "-" {
         return Ok(Vec::new(heap));
     }
+    let pairs = &field.as_bytes()[..field.len() / 2 * 2];
     ensure!(
-        !field.bytes().any(|b| b.is_ascii_uppercase()),
+        pairs
+            .iter()
+            .all(|b| matches!(*b, b'0'..=b'9' | b'a'..=b'f')),
         "no hex digit"
     );
-    Ok(hex::decode(heap, field)?)
+    hex::decode(heap, field).map_err(|e| match e {
+        FromHexError::OddLength => anyhow!("half a byte"),
+        FromHexError::OutOfMemory => anyhow::Error::from(AllocError),
+        _ => anyhow!("no hex digit"),
+    })
 }
 
 // The vector on a line: its name, and fields with a space before each.

@@ -44,16 +44,28 @@ fn group_of(heap: Global, digits: &str) -> anyhow::Result<Vec<u8>> {
     })
 }
 
+// Adds the bytes of one group of hex digits, `times` times. They are read once, and not at all where none are wanted.
+fn push_group(out: &mut Vec<u8>, heap: Global, digits: &str, times: u32) -> anyhow::Result<()> {
+    if times == 0 {
+        return Ok(());
+    }
+    let group = group_of(heap, digits)?;
+    if group.is_empty() {
+        return Ok(());
+    }
+    for _ in 0..times {
+        out.extend_from_slice(&group)?;
+    }
+    Ok(())
+}
+
 // The bytes of groups of hex digits, each as often as it says.
 fn bytes_of(heap: Global, text: &str) -> anyhow::Result<Vec<u8>> {
     let mut out = Vec::new(heap);
     for group in text.split(' ') {
-        let (digits, times) = match group.split_once('*') {
-            Some((digits, times)) => (digits, times.parse::<u32>()?),
-            None => (group, 1),
-        };
-        for _ in 0..times {
-            out.extend_from_slice(&group_of(heap, digits)?)?;
+        match group.split_once('*') {
+            Some((digits, times)) => push_group(&mut out, heap, digits, times.parse::<u32>()?)?,
+            None => push_group(&mut out, heap, group, 1)?,
         }
     }
     Ok(out)
