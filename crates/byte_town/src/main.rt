@@ -29,9 +29,9 @@ fn begun(rt: &HostRuntime, line: &[u8]) -> anyhow::Result<Town> {
     town.ok_or_else(|| anyhow!("the first line has to be: town TICK LIFE LAG SEED"))
 }
 
-// Does a line say something?
+// Does a line say something? What begins as one that says nothing is all that is read for it.
 fn says(line: &[u8]) -> bool {
-    !matches!(read(line), Some(Line::Blank))
+    !matches!(line, [] | [b'#', ..]) || !matches!(read(line), Some(Line::Blank))
 }
 
 // Plays a script, line by line; the lines that a line leads to are written when it is done.
@@ -42,6 +42,9 @@ fn play_script(rt: &HostRuntime, text: &[u8]) -> anyhow::Result<()> {
     };
     let mut town = begun(rt, first)?;
     for line in lines {
+        if !says(line) {
+            continue;
+        }
         let mut out = Text::new(rt.alloc());
         town.hear(&mut out, line)?;
         show(rt, &out)?;
