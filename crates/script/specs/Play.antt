@@ -2,9 +2,12 @@
 --   Seen         the town: its settings, none before the first line; the tick; who there is
 --   Outcome      what comes of a line: the town after it, and the answer
 --   heard s l    what comes of a line that reads as l; None is a line that can't be read
-use Rattle.std.specs.Prelude.{ℕ, ◌^◌, Bool, cond, ◌&&◌, ◌||◌, List, [], ◌∷◌, ◌++◌, length, Some, None, vec_items, Option, nat_le, nat_lt}
+--   played l     the line l is silent, or begins with a verb that the first form plays
+use Rattle.std.specs.Prelude.{ℕ, ◌^◌, Bool, cond, ◌&&◌, ◌||◌, List, [], ◌∷◌, ◌++◌, length, Some, None, codes, vec_items, Option, nat_le, nat_lt, nat_eq}
+use Rattle.std.specs.List.{starts_with}
 use Rattle.commands.specs.declared.line.Account.{Account}
 use Rattle.commands.specs.declared.line.Settings.{Settings}
+use Rattle.commands.specs.Grammar.{silent}
 use Rattle.commands.specs.Said as say
 use Rattle.script.specs.There.{there}
 use Rattle.script.specs.declared.town.Answer.{Answer}
@@ -105,3 +108,12 @@ obeyed s l = elim s.settings [ None ↦ begun s l | Some x ↦ acted s l ]
 abbrev pub heard : Seen → Option say.Said → Outcome
 heard s None = refused s
 heard s (Some l) = obeyed s l
+
+-- silent, or of a verb that the first form plays; any other line is refused
+abbrev pub played : List ℕ → Bool
+played l =
+    silent l
+    || starts_with nat_eq l (codes "town ")
+    || starts_with nat_eq l (codes "reader ")
+    || starts_with nat_eq l (codes "service ")
+    || starts_with nat_eq l (codes "tick ")

@@ -3,7 +3,7 @@ ghost use Rattle.std.specs.Prelude.{◌≡◌, ◌≤◌, is_some, IfOk};
 ghost use Rattle.commands.specs.Grammar.{read_of};
 ghost use Rattle.commands.specs.Said.{said};
 ghost use Rattle.script.specs.Laws.{Orderly};
-ghost use Rattle.script.specs.Play.{seen, nobody, in_range, known, opened, with_reader, with_service, ticked, begun, acted, obeyed, heard};
+ghost use Rattle.script.specs.Play.{seen, nobody, in_range, known, opened, with_reader, with_service, ticked, begun, acted, obeyed, heard, played};
 
 use crate::town::roll::Roll;
 use crate::town::{Answer, Town};
@@ -24,6 +24,17 @@ fn in_range(settings: &Settings) -> bool
     settings.tick < END_OF_TIME
         && (1..=MAX_LIFE).contains(&settings.life)
         && settings.lag <= MAX_LAG
+}
+
+// Whether a line is silent or begins with a verb that the first form plays. Any other is refused by its first bytes, however long it is.
+fn is_played(line: &[u8]) -> bool
+    ensures { result ≡ played line.now }
+{
+    matches!(line, [] | [b'#', ..])
+        || line.starts_with(b"town ")
+        || line.starts_with(b"reader ")
+        || line.starts_with(b"service ")
+        || line.starts_with(b"tick ")
 }
 
 impl Town {
@@ -56,6 +67,9 @@ impl Town {
         ensures refusal { result ≡ Answer.Fault → seen self.new ≡ seen self.old }
         ensures time { Orderly (seen self.old) → (seen self.old).tick ≤ (seen self.new).tick }
     {
+        if !is_played(line) {
+            return Answer::Fault;
+        }
         match read(line) {
             Some(said) => self.obey(said),
             None => Answer::Fault,
