@@ -1,17 +1,38 @@
 -- Accounts in bytes. Assumes nothing.
-use Rattle.std.specs.Prelude.{◌≡◌, ℕ, zero, suc, ◌+◌, ◌-◌, ◌*◌, ◌/◌, ◌<◌, ◌≤◌, Bool, true, false, cond, ◌&&◌, leb, List, [], ◌∷◌, ◌++◌, length, get_or, take, drop, Some, None, nat_le, slice_index_or, refl}
+use Rattle.std.specs.Prelude.{◌≡◌, ℕ, zero, suc, ◌+◌, ◌-◌, ◌*◌, ◌/◌, ◌<◌, ◌≤◌, Bool, true, false, cond, ◌&&◌, leb, ◌⊎◌, List, [], ◌∷◌, ◌++◌, length, get_or, take, drop, Some, None, ◌≢◌, nat_le, slice_index, slice_index_or, refl}
 use Rattle.accounts.specs.Entry.{entry}
 use Rattle.accounts.specs.Payload.{are_low, low, measure, payload, readable}
 use Rattle.halves.specs.Half.{Steady, payload_in}
 use Rattle.parts.specs.declared.account.Account.{Account}
 use Rattle.std.proofs.lemmas.List.{drop_at, drop-drop, get_or_append_left, get_or-drop, get_or-take, flat_map_more, length-append, length-drop, length-take-le, take-append-drop, take_at, take_more}
-use Rattle.std.proofs.lemmas.Bool.{and_from, and_parts, cond-true, le-leb, leb-true}
+use Rattle.std.proofs.lemmas.Bool.{and_from, and_left, and_parts, and_right, cases_eq, cond-true, le-leb, leb-true}
 use Rattle.std.proofs.Math.Bool.{and-true, and_assoc}
 use Rattle.std.specs.Bool.{then_some}
 use Rattle.std.specs.Simd.{first_chunks}
 use Rattle.std.specs.List.{flat_map, list_all}
 use borrow.Rule.Slice.PartMut.{put_mid}
-use Rattle.std.proofs.Common.{◌∙◌, ap, sym, arith}
+use Rattle.std.proofs.Common.{inl, inr, ◌∙◌, ap, sym, add-one, arith}
+
+-- one state that is above 2 is enough
+pub low-false : (bs : List ℕ) (i n : ℕ) → nat_le (slice_index bs (33 * (i + 1))) 2 ≡ false → i < n → low bs n ≡ false
+unfolding low
+low-false bs i zero e h = absurd (omega arith)
+low-false bs i (suc n) e h = go (λ (l : i < n). low-false bs i n e l) (cases_eq i n)
+  where
+    here : Bool
+    here = nat_le (slice_index bs (33 * (n + 1))) 2
+
+    go : (i < n → low bs n ≡ false) → (i ≡ n) ⊎ (i ≢ n) → low bs (suc n) ≡ false
+    go r (inl q) = and_right (low bs n) here (ap (λ (k : ℕ). leb (slice_index bs (33 * (k + 1))) 2) (sym q) ∙ e)
+    go r (inr q) = and_left (low bs n) here (r (omega arith))
+
+pub low-more : (bs : List ℕ) (i : ℕ) → low bs i ≡ true → nat_le (slice_index bs (33 * (i + 1))) 2 ≡ true → low bs (i + 1) ≡ true
+unfolding low
+low-more bs i e h = ap (low bs) (add-one i) ∙ and_from (low bs i) (nat_le (slice_index bs (33 * (i + 1))) 2) e h
+
+pub low-none : (bs : List ℕ) → low bs 0 ≡ true
+unfolding low
+low-none bs = refl
 
 -- what follows does not matter
 pub low-front : (p rest : List ℕ) (n : ℕ) → 33 * n < length p → low (p ++ rest) n ≡ low p n
