@@ -1,6 +1,10 @@
 // The program `town`: plays the scripts in the files that its arguments name, each in a town of its own, or the one on standard input.
 #![tactic(auto)]
 
+ghost use Rattle.commands.specs.Grammar.{read_of};
+ghost use Rattle.commands.specs.Said as say;
+ghost use Rattle.std.specs.Prelude.{◌≡◌, Some, false};
+
 use anyhow::anyhow;
 use commands::line::Line;
 use commands::lines::{Lines, read};
@@ -30,7 +34,9 @@ fn begun(rt: &HostRuntime, line: &[u8]) -> anyhow::Result<Town> {
 }
 
 // Does a line say something? What begins as one that says nothing is all that is read for it.
-fn says(line: &[u8]) -> bool {
+fn says(line: &[u8]) -> bool
+    ensures { result ≡ false → read_of line.now ≡ Some say.Blank }
+{
     !matches!(line, [] | [b'#', ..]) || !matches!(read(line), Some(Line::Blank))
 }
 
