@@ -1,12 +1,20 @@
 // Writing words, decimals and hex behind a text.
 ghost use Rattle.printed.specs.Printed.{shown};
-ghost use Rattle.std.specs.Prelude.{◌≡◌, [], ◌++◌, decimal, OnOk};
+ghost use Rattle.std.specs.Prelude.{◌≡◌, ◌+◌, ◌*◌, [], ◌++◌, length, take, decimal, OnOk};
 ghost use Rattle.std.specs.Fmt.{AppendsText};
-ghost use Rattle.words.specs.Laws.{bytes_text};
+ghost use Rattle.words.specs.Laws.{hex_text, bytes_text};
 
 use super::text::Text;
 use std::alloc::{AllocError, Global};
 use std::fmt::Display;
+
+// Writes bytes in hex from `at` on, where there is room for just their digits.
+fn put_hex(bytes: &[u8], out: &mut [u8], at: usize)
+    requires { length out.old ≡ at + 2 * length bytes.now }
+    ensures { out.new ≡ take at out.old ++ hex_text bytes.now }
+{
+    let _ = hex::encode_to_slice(bytes, &mut out[at..]);
+}
 
 impl Text {
     // Nothing yet.
@@ -54,7 +62,14 @@ impl Text {
         if bytes.is_empty() {
             return self.plain(b"-");
         }
-        let digits = hex::encode(*self.bytes.allocator(), bytes)?;
-        self.plain(digits.as_bytes())
+        let at = self.bytes.len();
+        let Some(digits) = bytes.len().checked_mul(2) else {
+            return Err(AllocError);
+        };
+        // Room for the end of the line too, at which a full text would grow to twice its length.
+        self.bytes.reserve(digits.saturating_add(1))?;
+        self.bytes.resize(at + digits, 0)?;
+        put_hex(bytes, self.bytes.as_mut_slice(), at);
+        Ok(())
     }
 }
