@@ -119,13 +119,13 @@ fn octet(high: u8, low: u8) -> u8
 }
 
 // The bytes that pairs of digits stand for, in memory of their own.
+// Room for all is made first: `collect` makes it at the first byte, which costs a short word more.
 fn pair_octets(heap: Global, pairs: &[[u8; 2]]) -> Result<Vec<u8>, AllocError>
     ensures { IfOk result (λ v. v.items ≡ map pair_octet pairs.now) }
 {
-    pairs
-        .iter()
-        .map(|[high, low]| octet(*high, *low))
-        .collect(heap)
+    let mut bytes = Vec::with_capacity(heap, pairs.len())?;
+    bytes.extend(pairs.iter().map(|[high, low]| octet(*high, *low)))?;
+    Ok(bytes)
 }
 
 // Writes the bytes that pairs of digits stand for to the front of `out`.
