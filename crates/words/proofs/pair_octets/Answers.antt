@@ -1,6 +1,5 @@
 use Rattle.std.proofs.Common.{rules, ◌≡◌, ◌++◌, List, ℕ, ap, ◌∙◌}
 use Rattle.std.proofs.iter.runs.Consumers.{total_runs}
-use Rattle.words.specs.Text.{pair_octet}
 use Rattle.words.proofs.pair_octets.Goals as goal
 
 pub returns : goal.returns
